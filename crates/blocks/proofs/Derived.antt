@@ -1,0 +1,145 @@
+-- What the descent takes, the grammar derives.
+use Prim.Native.Nat.{ℕ, zero, suc, _<_}
+use mathlib.Core.Path.{_≡_, refl, ap, sym, _∙_}
+use mathlib.Core.Bool.{Bool, true, false}
+use native.Mathlib.Omega.{arith}
+use lib.Dec.{eqb, ltb}
+use borrow.Author.Tests.{ltb-true, eqb-true}
+use Rattle.paper.specs.Notation.{pick}
+use Rattle.paper.specs.Numbers.{refusal}
+use Rattle.paper.specs.Blocks.{Cut, out, wrong, then, stands, loopsIn, closerOf, mostOpen, Body, none, more, Item, one, block, Block, closed, withElse}
+use Rattle.paper.specs.Walk.{opened, pastElse, closerNumber, closes, elses}
+use Rattle.paper.specs.declared.Class.{Class}
+use Rattle.paper.specs.declared.Class.the-variants.{One, Opens, Closes}
+use Rattle.paper.specs.declared.Opener.{Opener}
+use Rattle.paper.specs.declared.Opener.the-variants.{If, Loop, Rep}
+use Rattle.paper.specs.declared.Closer.{Closer}
+use Rattle.paper.specs.declared.Closer.the-variants.{Else, EndIf, EndLoop, EndRep, End}
+use Rattle.paper.specs.declared.Single.{Single}
+use Rattle.paper.specs.declared.Reason.the-variants.{Block as BLOCK, Depth as DEPTH}
+use Rattle.blocks.specs.Descent.{BodyEnd, stopped, broken, ItemEnd, passed, closer, refused, onItem, closing, onLast, onFirst, body, item}
+use Rattle.blocks.specs.Descent
+
+-- the closer of a number
+closerNamed : ℕ → Closer
+closerNamed n = pick (eqb n 0) Else (pick (eqb n 1) EndIf (pick (eqb n 2) EndLoop (pick (eqb n 3) EndRep End)))
+
+named-number : (c : Closer) → closerNamed (closerNumber c) ≡ c
+unfolding closerNamed
+named-number Else = refl
+named-number EndIf = refl
+named-number EndLoop = refl
+named-number EndRep = refl
+named-number End = refl
+
+-- closers with one number are one
+pub same-closer : (c d : Closer) → eqb (closerNumber c) (closerNumber d) ≡ true → c ≡ d
+same-closer c d e = sym (named-number c) ∙ ap closerNamed (eqb-true (closerNumber c) (closerNumber d) e) ∙ named-number d
+
+never : {A : Type 0} → false ≡ true → A
+never e = let z : _≡_ {A = ℕ} 0 1 = cc in absurd (omega arith)
+
+else-at-if : (c : Closer) (o : Opener) → elses c (opened o) ≡ true → (c ≡ Else) × (o ≡ If)
+else-at-if Else If e = (refl, refl)
+else-at-if Else Loop e = never e
+else-at-if Else Rep e = never e
+else-at-if EndIf o e = never e
+else-at-if EndLoop o e = never e
+else-at-if EndRep o e = never e
+else-at-if End o e = never e
+
+-- what is taken is derived; what is refused says nothing
+abbrev pub BodyDerived : ℕ → Bool → Cut → BodyEnd → Type 0
+BodyDerived depth loop a (stopped c p b) = Body depth loop a (then (Closes c) p b)
+BodyDerived depth loop a (broken r) = Unit
+
+abbrev ItemDerived : ℕ → Bool → Cut → ItemEnd → Type 0
+ItemDerived depth loop a (passed b) = Item depth loop a b
+ItemDerived depth loop a (closer c p b) = Body depth loop a (then (Closes c) p b)
+ItemDerived depth loop a (refused r) = Unit
+
+abbrev BlockDerived : ℕ → Bool → Cut → ItemEnd → Type 0
+BlockDerived depth loop a (passed b) = Block depth loop a b
+BlockDerived depth loop a (closer c p b) = ⊥
+BlockDerived depth loop a (refused r) = Unit
+
+module _ (depth : ℕ) (loop : Bool) where
+  more-derived : (a b : Cut) → Item depth loop a b → (e : BodyEnd) → BodyDerived depth loop b e → BodyDerived depth loop a e
+  more-derived a b x (stopped c p d) y = more x y
+  more-derived a b x (broken r) y = tt
+
+  on-item-derived : (a : Cut) (next : Cut → BodyEnd) → ((b : Cut) → BodyDerived depth loop b (next b)) →
+      (e : ItemEnd) → ItemDerived depth loop a e → BodyDerived depth loop a (onItem e next)
+  on-item-derived a next h (passed b) x = more-derived a b x (next b) (h b)
+  on-item-derived a next h (closer c p b) x = x
+  on-item-derived a next h (refused r) x = tt
+
+  one-derived : (s : Single) (p : ℕ) (a : Cut) (test : Bool) → stands depth loop s ≡ test →
+      ItemDerived depth loop (then (One s) p a) (pick test (passed a) (refused (refusal BLOCK p)))
+  one-derived s p a true e = one e
+  one-derived s p a false e = tt
+
+  block-item : (a : Cut) → depth < mostOpen → (e : ItemEnd) → BlockDerived depth loop a e → ItemDerived depth loop a e
+  block-item a lt (passed b) x = block lt x
+  block-item a lt (closer c p b) x = absurd x
+  block-item a lt (refused r) x = tt
+
+  opens-derived : (a : Cut) (p : ℕ) (e : ItemEnd) → BlockDerived depth loop a e → (test : Bool) → ltb depth mostOpen ≡ test →
+      ItemDerived depth loop a (pick test e (refused (refusal DEPTH p)))
+  opens-derived a p e x true lt = block-item a (ltb-true depth mostOpen lt) e x
+  opens-derived a p e x false lt = tt
+
+  closed-derived : (o : Opener) (p : ℕ) (a : Cut) (c : Closer) (q : ℕ) (b : Cut) → Body (suc depth) (loopsIn o loop) a (then (Closes c) q b) →
+      (test : Bool) → closes c (opened o) ≡ test → BlockDerived depth loop (then (Opens o) p a) (pick test (passed b) (refused (refusal BLOCK q)))
+  closed-derived o p a c q b x true e = closed (rw (same-closer c (closerOf o) e) at x)
+  closed-derived o p a c q b x false e = tt
+
+  second-derived : (p : ℕ) (a : Cut) (q : ℕ) (b : Cut) → Body (suc depth) loop a (then (Closes Else) q b) →
+      (e : BodyEnd) → BodyDerived (suc depth) loop b e → BlockDerived depth loop (then (Opens If) p a) (onLast pastElse e)
+  second-derived p a q b x (stopped c r d) y = go-on (closes c pastElse) refl
+    where
+      go-on : (test : Bool) → closes c pastElse ≡ test →
+          BlockDerived depth loop (then (Opens If) p a) (pick test (passed d) (refused (refusal BLOCK r)))
+      go-on true e = withElse x (rw (same-closer c EndIf e) at y)
+      go-on false e = tt
+  second-derived p a q b x (broken r) y = tt
+
+  first-derived : (o : Opener) (p : ℕ) (a : Cut) (second : Cut → BodyEnd) → ((b : Cut) → BodyDerived (suc depth) loop b (second b)) →
+      (e : BodyEnd) → BodyDerived (suc depth) (loopsIn o loop) a e → BlockDerived depth loop (then (Opens o) p a) (onFirst o e second)
+  first-derived o p a second h (stopped c q b) x = go-on (elses c (opened o)) refl
+    where
+      if-else : (d : Closer) (k : Opener) → d ≡ Else → k ≡ If → Body (suc depth) (loopsIn k loop) a (then (Closes d) q b) →
+          BlockDerived depth loop (then (Opens k) p a) (onLast pastElse (second b))
+      if-else d k e f y = rw f (second-derived p a q b (rw (e, f) at y) (second b) (h b))
+
+      go-on : (test : Bool) → elses c (opened o) ≡ test →
+          BlockDerived depth loop (then (Opens o) p a) (pick test (onLast pastElse (second b)) (closing (opened o) c q b))
+      go-on true e = if-else c o (else-at-if c o e .0) (else-at-if c o e .1) x
+      go-on false e = closed-derived o p a c q b x (closes c (opened o)) refl
+  first-derived o p a second h (broken r) x = tt
+
+mutual
+  unfolding body
+
+  pub body-derived : (most depth : ℕ) (loop : Bool) (a : Cut) → BodyDerived depth loop a (body most depth loop a)
+  body-derived zero depth loop a = tt
+  body-derived (suc most) depth loop (out p) = tt
+  body-derived (suc most) depth loop (wrong p r) = tt
+  body-derived (suc most) depth loop (then c p a) =
+      on-item-derived depth loop (then c p a) (λ b. body most depth loop b) (λ b. body-derived most depth loop b) (item most depth loop c p a)
+      (item-derived most depth loop c p a)
+
+  item-derived : (most depth : ℕ) (loop : Bool) (c : Class) (p : ℕ) (a : Cut) → ItemDerived depth loop (then c p a) (item most depth loop c p a)
+  item-derived zero depth loop c p a = tt
+  item-derived (suc most) depth loop (One s) p a = one-derived depth loop s p a (stands depth loop s) refl
+  item-derived (suc most) depth loop (Opens o) p a =
+      opens-derived depth loop (then (Opens o) p a) p (Descent.block most depth loop o a) (block-derived most depth loop o p a)
+      (ltb depth mostOpen) refl
+  item-derived (suc most) depth loop (Closes c) p a = none
+
+  block-derived : (most depth : ℕ) (loop : Bool) (o : Opener) (p : ℕ) (a : Cut) →
+      BlockDerived depth loop (then (Opens o) p a) (Descent.block most depth loop o a)
+  block-derived zero depth loop o p a = tt
+  block-derived (suc most) depth loop o p a =
+      first-derived depth loop o p a (λ b. body most (suc depth) loop b) (λ b. body-derived most (suc depth) loop b)
+      (body most (suc depth) (loopsIn o loop) a) (body-derived most (suc depth) (loopsIn o loop) a)

@@ -1,0 +1,7 @@
+-- The theorems about blocks.
+pub mod Cutting
+pub mod Unfold
+pub mod Derived
+pub mod WalkIsGrammar
+pub mod Reach
+pub mod Refused

@@ -1,0 +1,94 @@
+-- The grammar as a descent: what a body, an item and a block take, or the refusal.
+use Prim.Native.Nat.{ℕ, zero, suc}
+use mathlib.Core.Bool.{Bool, false}
+use lib.Dec.{eqb, ltb}
+use Rattle.paper.specs.Notation.{pick}
+use Rattle.paper.specs.Numbers.{refusal}
+use Rattle.paper.specs.Blocks.{Cut, out, wrong, then, stands, loopsIn, mostOpen}
+use Rattle.paper.specs.Walk.{Kind, opened, pastElse, closerNumber, closes, elses, atEnd}
+use Rattle.paper.specs.declared.Class.{Class}
+use Rattle.paper.specs.declared.Class.the-variants.{One, Opens, Closes}
+use Rattle.paper.specs.declared.Opener.{Opener}
+use Rattle.paper.specs.declared.Closer.{Closer}
+use Rattle.paper.specs.declared.Closer.the-variants.{End}
+use Rattle.paper.specs.declared.Reason.the-variants.{RunOut as RUN-OUT, Block as BLOCK, Depth as DEPTH}
+use Rattle.paper.specs.declared.Refusal.{Refusal}
+use Rattle.paper.specs.declared.Verdict.{Verdict}
+use Rattle.paper.specs.declared.Verdict.the-variants.{Refused}
+
+-- a body stops at a closer, with its position and what follows it, or is refused
+pub data BodyEnd : Type 0 where
+  stopped : Closer → ℕ → Cut → BodyEnd
+  broken : Refusal → BodyEnd
+
+-- an item or a block is passed; there is no item but a closer; or it is refused
+pub data ItemEnd : Type 0 where
+  passed : Cut → ItemEnd
+  closer : Closer → ℕ → Cut → ItemEnd
+  refused : Refusal → ItemEnd
+
+-- after an item: the rest of the body
+abbrev pub onItem : ItemEnd → (Cut → BodyEnd) → BodyEnd
+onItem (passed a) body = body a
+onItem (closer c p a) body = stopped c p a
+onItem (refused r) body = broken r
+
+-- a closer that must be the block's own
+abbrev pub closing : Kind → Closer → ℕ → Cut → ItemEnd
+closing k c p a = pick (closes c k) (passed a) (refused (refusal BLOCK p))
+
+-- the last body of a block
+abbrev pub onLast : Kind → BodyEnd → ItemEnd
+onLast k (stopped c p a) = closing k c p a
+onLast k (broken r) = refused r
+
+-- the first body of a block; behind the ELSE of an IF a second one follows
+abbrev pub onFirst : Opener → BodyEnd → (Cut → BodyEnd) → ItemEnd
+onFirst o (stopped c p a) second = pick (elses c (opened o)) (onLast pastElse (second a)) (closing (opened o) c p a)
+onFirst o (broken r) second = refused r
+
+-- the first number bounds how deep the calls go
+unfoldable mutual
+  pub body : ℕ → ℕ → Bool → Cut → BodyEnd
+  body zero depth inLoop a = broken (refusal RUN-OUT 0)
+  body (suc most) depth inLoop (out p) = broken (refusal RUN-OUT p)
+  body (suc most) depth inLoop (wrong p r) = broken r
+  body (suc most) depth inLoop (then c p a) = onItem (item most depth inLoop c p a) (λ b. body most depth inLoop b)
+
+  pub item : ℕ → ℕ → Bool → Class → ℕ → Cut → ItemEnd
+  item zero depth inLoop c p a = refused (refusal RUN-OUT 0)
+  item (suc most) depth inLoop (One s) p a = pick (stands depth inLoop s) (passed a) (refused (refusal BLOCK p))
+  item (suc most) depth inLoop (Opens o) p a = pick (ltb depth mostOpen) (block most depth inLoop o a) (refused (refusal DEPTH p))
+  item (suc most) depth inLoop (Closes c) p a = closer c p a
+
+  pub block : ℕ → ℕ → Bool → Opener → Cut → ItemEnd
+  block zero depth inLoop o a = refused (refusal RUN-OUT 0)
+  block (suc most) depth inLoop o a =
+      onFirst o (body most (suc depth) (loopsIn o inLoop) a) (λ b. body most (suc depth) inLoop b)
+
+-- a bound that is enough
+unfoldable pub fuel : Cut → ℕ
+fuel (out p) = 3
+fuel (wrong p r) = 3
+fuel (then c p a) = suc (suc (suc (fuel a)))
+
+-- where this many blocks are open, a LOOP or REP among them or not: what a body takes of a cut
+unfoldable pub bodyOf : ℕ → Bool → Cut → BodyEnd
+bodyOf depth inLoop a = body (fuel a) depth inLoop a
+
+-- what an item takes that begins with this class at this position
+unfoldable pub itemOf : ℕ → Bool → Class → ℕ → Cut → ItemEnd
+itemOf depth inLoop c p a = item (fuel a) depth inLoop c p a
+
+-- what a block takes behind its opener
+unfoldable pub blockOf : ℕ → Bool → Opener → Cut → ItemEnd
+blockOf depth inLoop o a = block (fuel a) depth inLoop o a
+
+-- "a stream is a body and END"
+abbrev pub onStream : ℕ → BodyEnd → Verdict
+onStream count (stopped c p a) = pick (eqb (closerNumber c) (closerNumber End)) (atEnd count a) (Refused (refusal BLOCK p))
+onStream count (broken r) = Refused r
+
+-- the verdict of the descent, where a yes gives this count
+unfoldable pub descended : ℕ → Cut → Verdict
+descended count a = onStream count (bodyOf 0 false a)

@@ -1,0 +1,4 @@
+-- What the theorems about blocks speak of.
+pub mod Begins
+pub mod Descent
+pub mod Reach

@@ -1,0 +1,44 @@
+-- Where a walk comes to, and a verdict whose positions are moved.
+use Prim.Native.Nat.{ℕ}
+use mathlib.Core.Path.{_≡_}
+use mathlib.Core.List.{List, [], _∷_}
+use Rattle.paper.specs.Numbers.{refusal}
+use Rattle.paper.specs.Blocks.{Cut, out, wrong, then}
+use Rattle.paper.specs.Walk.{Kind, step, Next, go, bad, finish}
+use Rattle.paper.specs.declared.Class.{Class}
+use Rattle.paper.specs.declared.Reason.the-variants.{Tail as TAIL}
+use Rattle.paper.specs.declared.Refusal.{Refusal}
+use Rattle.paper.specs.declared.Verdict.{Verdict}
+use Rattle.paper.specs.declared.Verdict.the-variants.{Accepted, Refused}
+
+-- a walk at a, with the blocks ks open, comes to b with the blocks ls open
+pub data Reaches : Cut → List Kind → Cut → List Kind → Type 0 where
+  here : {a : Cut} {ks : List Kind} → Reaches a ks a ks
+  past : {c : Class} {p : ℕ} {a b : Cut} {ks ls ms : List Kind} →
+      step ks c ≡ go ls → Reaches a ls b ms → Reaches (then c p a) ks b ms
+
+-- nothing may follow the END that finishes a stream
+abbrev pub onwards : Next → List Class → (List Kind → Next) → Next
+onwards (go ks) cs next = next ks
+onwards (bad reason) cs next = bad reason
+onwards finish [] next = finish
+onwards finish (c ∷ cs) next = bad TAIL
+
+-- the open blocks after a row of classes, from the blocks ks on
+unfoldable pub openAfter : List Kind → List Class → Next
+openAfter ks [] = go ks
+openAfter ks (c ∷ cs) = onwards (step ks c) cs (λ next. openAfter next cs)
+
+-- a refusal with its position moved
+abbrev pub movedRefusal : (ℕ → ℕ) → Refusal → Refusal
+movedRefusal f r = refusal (r .reason) (f (r .position))
+
+-- a verdict with its positions moved; a yes gives another count
+abbrev pub moved : ℕ → (ℕ → ℕ) → Verdict → Verdict
+moved count f (Accepted n) = Accepted count
+moved count f (Refused r) = Refused (movedRefusal f r)
+
+unfoldable pub movedCut : (ℕ → ℕ) → Cut → Cut
+movedCut f (out p) = out (f p)
+movedCut f (wrong p r) = wrong (f p) (movedRefusal f r)
+movedCut f (then c p a) = then c (f p) (movedCut f a)

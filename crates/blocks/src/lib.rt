@@ -1,0 +1,1 @@
+// The theorems about blocks: the walk with open blocks is the grammar.

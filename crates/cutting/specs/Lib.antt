@@ -1,0 +1,2 @@
+-- What an instruction claims.
+pub mod Claim

@@ -1,0 +1,12 @@
+use borrow.Author.Needs.{needs}
+use Rattle.dcl.proofs.pixel_usage.Statement.{statement}
+use Rattle.dcl.proofs.pixel_usage.Tie as tie
+
+usage-form-requires : tie.Need-usage-form-requires
+usage-form-requires c κs = search needs
+
+returns : tie.Need-returns
+returns c = rw (c .usage-form .ensures)
+
+pub pixel-usage-spec : {M : Type 1} → statement M
+pixel-usage-spec = tie.close (tie.spec usage-form-requires returns)

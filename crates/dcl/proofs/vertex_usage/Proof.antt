@@ -1,0 +1,12 @@
+use borrow.Author.Needs.{needs}
+use Rattle.dcl.proofs.vertex_usage.Statement.{statement}
+use Rattle.dcl.proofs.vertex_usage.Tie as tie
+
+usage-form-requires : tie.Need-usage-form-requires
+usage-form-requires c κs = search needs
+
+returns : tie.Need-returns
+returns c = rw (c .usage-form .ensures)
+
+pub vertex-usage-spec : {M : Type 1} → statement M
+vertex-usage-spec = tie.close (tie.spec usage-form-requires returns)

@@ -1,0 +1,196 @@
+// The operands of DCL: document 01, "DCL".
+ghost use mathlib.Core.Path.{_≡_};
+ghost use Rattle.paper.specs.Notation.{pick};
+ghost use Rattle.paper.specs.OperandTokens.{typeOf};
+ghost use Rattle.paper.specs.Dcl.{samplerForm, plainForm, usageForm, vertexUsage, pixelUsage, samplerTypes, plainTypes, usageTypes, formLaid, refusedAs, isDeclared, positionOrFace, faceLaid, declaredAt, onDeclared, usageLaid, declaration};
+use paper::Operands;
+use paper::Reason;
+use paper::Refusal;
+use paper::Token;
+use paper::Version;
+
+// The destination's place, of specs/OperandTokens.antt.
+const DECLARED: u64 = 61;
+
+// Register types that are declared, as sets: each type raises its own bit.
+const NONE: u32 = 0;
+
+const INPUT: u32 = 1 << 1;
+
+const INPUT_AND_TEXTURE: u32 = 0b1010;
+
+const INPUT_AND_OUTPUT: u32 = 0b100_0010;
+
+const SAMPLER: u32 = 1 << 10;
+
+const MISCELLANEOUS: u32 = 1 << 17;
+
+fn sampler_types(version: Version) -> u32
+    ensures { λ r. ⌜ r ≡ samplerTypes version ⌝ }
+{
+    match version {
+        Version::V2 => NONE,
+        Version::V3 => SAMPLER,
+        Version::P2 => SAMPLER,
+        Version::P3 => SAMPLER,
+    }
+}
+
+fn plain_types(version: Version) -> u32
+    ensures { λ r. ⌜ r ≡ plainTypes version ⌝ }
+{
+    match version {
+        Version::V2 => NONE,
+        Version::V3 => NONE,
+        Version::P2 => INPUT_AND_TEXTURE,
+        Version::P3 => MISCELLANEOUS,
+    }
+}
+
+fn usage_types(version: Version) -> u32
+    ensures { λ r. ⌜ r ≡ usageTypes version ⌝ }
+{
+    match version {
+        Version::V2 => INPUT,
+        Version::V3 => INPUT_AND_OUTPUT,
+        Version::P2 => NONE,
+        Version::P3 => INPUT_AND_TEXTURE,
+    }
+}
+
+fn sampler_form(usage: u32) -> bool
+    ensures { λ r. ⌜ r ≡ samplerForm usage ⌝ }
+{
+    (usage % 0x800_0000 == 0) & ((2 <= usage / 0x800_0000 % 16) & (usage / 0x800_0000 % 16 <= 4))
+}
+
+fn usage_form(usage: u32) -> bool
+    ensures { λ r. ⌜ r ≡ usageForm usage ⌝ }
+{
+    (usage / 0x20 % 0x800 == 0) & (usage / 0x10_0000 % 0x800 == 0)
+}
+
+fn vertex_usage(usage: u32) -> bool
+    ensures { λ r. ⌜ r ≡ vertexUsage usage ⌝ }
+{
+    let laid = usage_form(usage);
+    laid & (usage % 32 <= 13)
+}
+
+fn pixel_usage(usage: u32) -> bool
+    ensures { λ r. ⌜ r ≡ pixelUsage usage ⌝ }
+{
+    let laid = usage_form(usage);
+    laid
+        & (((usage % 32 == 5) & (usage / 0x1_0000 % 16 <= 7))
+            | ((usage % 32 == 10) & (usage / 0x1_0000 % 16 == 0)))
+}
+
+// The form that goes with the destination's type: a sampler's, the plain one, or a usage.
+fn form_by(sampler: bool, plain: bool, pixel: bool, usage: u32) -> bool
+    ensures { λ r. ⌜ r ≡ pick sampler (samplerForm usage) (pick plain (plainForm usage) (pick pixel (pixelUsage usage) (vertexUsage usage))) ⌝ }
+{
+    if sampler {
+        return sampler_form(usage);
+    }
+    if plain {
+        return usage % 0x8000_0000 == 0;
+    }
+    if pixel {
+        return pixel_usage(usage);
+    }
+    vertex_usage(usage)
+}
+
+fn form_laid(version: Version, destination: u32, usage: u32) -> bool
+    ensures { λ r. ⌜ r ≡ formLaid version (typeOf destination) usage ⌝ }
+{
+    let sampler = tokens::type_in(sampler_types(version), destination);
+    let plain = tokens::type_in(plain_types(version), destination);
+    form_by(sampler, plain, tokens::is_pixel(version), usage)
+}
+
+fn usage_laid(version: Version, destination: u32, usage: u32) -> bool
+    ensures { λ r. ⌜ r ≡ usageLaid version (typeOf destination) usage ⌝ }
+{
+    let form = form_laid(version, destination, usage);
+    (usage / 0x8000_0000 % 2 == 1) & form
+}
+
+fn position_or_face(destination: u32) -> bool
+    ensures { λ r. ⌜ r ≡ positionOrFace destination ⌝ }
+{
+    (destination % 0x800 == 0)
+        | ((destination % 0x800 == 1)
+            & ((destination / 0x1_0000 % 16 == 15) & (destination / 0x10_0000 % 16 == 0)))
+}
+
+fn face_laid(version: Version, destination: u32) -> bool
+    ensures { λ r. ⌜ r ≡ faceLaid version destination ⌝ }
+{
+    let kind = tokens::type_of(destination);
+    let face = position_or_face(destination);
+    match version {
+        Version::V2 => true,
+        Version::V3 => true,
+        Version::P2 => true,
+        Version::P3 => (kind != 17) | face,
+    }
+}
+
+fn is_declared(version: Version, destination: u32) -> bool
+    ensures { λ r. ⌜ r ≡ isDeclared version (typeOf destination) ⌝ }
+{
+    let sampler = tokens::type_in(sampler_types(version), destination);
+    let plain = tokens::type_in(plain_types(version), destination);
+    let used = tokens::type_in(usage_types(version), destination);
+    sampler | (plain | used)
+}
+
+fn declared_at(version: Version, destination: u32) -> Token
+    ensures { λ r. ⌜ r ≡ declaredAt version destination ⌝ }
+{
+    let laid = tokens::destination_laid(version, DECLARED, destination);
+    let face = face_laid(version, destination);
+    let declared = is_declared(version, destination);
+    tokens::layout_then_type(laid & face, declared)
+}
+
+fn refused(reason: Reason, position: usize) -> Operands
+    ensures { λ r. ⌜ r ≡ refusedAs reason position ⌝ }
+{
+    Operands::Refused(Refusal { reason, position })
+}
+
+// The destination is judged first, then U, then what is left over.
+fn conclude(destination: Token, usage_laid: bool, no_more: bool) -> Operands
+    ensures { λ r. ⌜ r ≡ onDeclared destination (pick «usage_laid» (pick «no_more» Operands.Fit (refusedAs Reason.Size 0)) (refusedAs Reason.Operand 1)) ⌝ }
+{
+    match destination {
+        Token::Good => {}
+        Token::Bad(reason) => {
+            return refused(reason, 2);
+        }
+    }
+    if usage_laid {
+        if no_more {
+            return Operands::Fit;
+        }
+        return refused(Reason::Size, 0);
+    }
+    refused(Reason::Operand, 1)
+}
+
+// The tokens behind a DCL's instruction token: U, the destination, and no more.
+pub fn judge_declaration(version: Version, behind: &[u32]) -> Operands
+    ensures { λ r. ⌜ r ≡ declaration version (now (behind .entry)) ⌝ }
+{
+    if behind.len() < 2 {
+        return refused(Reason::Size, 0);
+    }
+    let usage = behind[0];
+    let destination = behind[1];
+    let judged = declared_at(version, destination);
+    let laid = usage_laid(version, destination, usage);
+    conclude(judged, laid, behind.len() == 2)
+}

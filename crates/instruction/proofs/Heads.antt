@@ -1,0 +1,204 @@
+-- The head of an instruction by the shape of its opcode.
+use mathlib.Core.Path.{_≡_, refl, sym}
+use mathlib.Core.Bool.{Bool, true, false, not, _&&_, _||_}
+use mathlib.Core.List.{List, [], _∷_}
+use Prim.Native.Nat.{ℕ, suc, _*_, _%_, _^_, _<_, _≤_}
+use native.Mathlib.Nat.{mod-eq-of-lt, pow-le-pow-right}
+use native.Mathlib.Omega.{arith}
+use lib.Dec.{eqb, leb, lit<, leb·zero}
+use lib.ListN.{length, take, drop, getD}
+use borrow.Author.Tests.{ne-eqb, eqb-true}
+use Rattle.paper.specs.Notation.{pick, among, bits, bit}
+use Rattle.paper.specs.OpcodeTable.{Letter, Entry, absent, listed, entryOf, DCL, DEF, DEFI, DEFB, IFC, BREAKC, SETP, TEX}
+use Rattle.paper.specs.Versions.{isThird}
+use Rattle.paper.specs.InstructionToken.{opcodeOf, controlsOf, statedSize, isPredicated, commentOpcode, commentLength, commentLaid, endOpcode, endToken, hasDestination, mayBePredicated, controlsLaid, bitsLaid}
+use Rattle.paper.specs.OperandTokens.{predicate, placesFrom}
+use Rattle.paper.specs.Instruction.{Head as Said, broken, end, comment, dcl, operation, places, headOf, head, onHead, judged}
+use Rattle.paper.specs.Numbers.{refusal}
+use Rattle.paper.specs.Blocks.{classOf}
+use Rattle.paper.specs.declared.Version.{Version}
+use Rattle.opcodes.specs.Places.{decoded}
+use Rattle.opcodes.specs.Shape.{digits, shapeOf}
+use Rattle.opcodes.proofs.Laws.{shape-absent, shape-zero, shape-places, shape-step, shape-rule, decoded-digits, decoded-predicated, without-predicate, digits-predicated}
+use Rattle.paper.specs.declared.Judged.{Judged}
+use Rattle.paper.specs.declared.Judged.the-variants.{Refused as Unfit}
+use Rattle.paper.specs.declared.Reason.the-variants.{Bits as BITS, RunOut as RUN-OUT}
+use Rattle.opcodes.proofs.Laws.{length-places}
+use Rattle.instruction.specs.declared.Head.{Head}
+use Rattle.instruction.specs.declared.Head.the-variants.{Refused, End, Comment}
+use Rattle.instruction.specs.Encoded.{encoded, claimOf, judgedBy, controlsBy, bitsBy, placesBy, headBy}
+
+encoded-pick : (b : Bool) (x y : Said) → encoded (pick b x y) ≡ pick b (encoded x) (encoded y)
+encoded-pick true x y = refl
+encoded-pick false x y = refl
+
+pub head-comment : (v : Version) (token : ℕ) → opcodeOf token ≡ commentOpcode →
+    encoded (head v token) ≡ pick (commentLaid token) (Comment (commentLength token)) (Refused BITS)
+unfolding head
+head-comment v token h = rw (h, encoded-pick (commentLaid token) (comment (commentLength token)) (broken BITS))
+
+pub head-end : (v : Version) (token : ℕ) → opcodeOf token ≡ endOpcode → encoded (head v token) ≡ pick (eqb token endToken) End (Refused BITS)
+unfolding head
+head-end v token h = rw (h, encoded-pick (eqb token endToken) end (broken BITS))
+
+-- the predicate's digit, as a machine of 64 bits shifts it
+pub predicate-small : (step : ℕ) → step < 8 → predicate * 2 ^ (7 * step) < 2 ^ 56
+predicate-small step h =
+    let below : 2 ^ (7 * step) ≤ 2 ^ 49 = pow-le-pow-right {n = 2} (lit< tt) {i = 7 * step} {j = 49} (omega arith) in
+    omega arith
+
+pub predicate-fits : (step : ℕ) → step < 8 → predicate * 2 ^ (7 * step) % 2 ^ 64 ≡ predicate * 2 ^ (7 * step)
+predicate-fits step h = mod-eq-of-lt (omega (arith, predicate-small step h))
+
+controls-by : (compared textured : Bool) (controls : ℕ) →
+    controlsBy (pick compared 1 (pick textured 2 0)) controls ≡
+    pick compared (leb 1 controls && leb controls 6) (pick textured (leb controls 2) (eqb controls 0))
+controls-by true textured controls = refl
+controls-by false true controls = refl
+controls-by false false controls = refl
+
+step-by : (letters : List Letter) (may : Bool) → (may ≡ true → hasDestination letters ≡ true) → not (eqb (pick may (length letters) 0) 0) ≡ may
+step-by letters false h = refl
+step-by [] true h = let z : false ≡ true = h refl in z
+step-by (letter ∷ letters) true h = rw (ne-eqb (suc (length letters)) 0 (λ e. omega arith))
+
+needs-destination : (third has no-definition : Bool) → third && (has && no-definition) ≡ true → has ≡ true
+needs-destination true true free e = refl
+needs-destination true false free e = e
+needs-destination false has free e = let z : _≡_ {A = ℕ} 0 1 = cc in absurd (omega arith)
+
+predicated-only : (zeros controls unpredicated may : Bool) → zeros && (controls && (unpredicated || may)) ≡ true → unpredicated ≡ false → may ≡ true
+predicated-only true true false may e f = e
+predicated-only true true true may e f = let z : _≡_ {A = ℕ} 0 1 = cc in absurd (omega arith)
+predicated-only true false unpredicated may e f = let z : _≡_ {A = ℕ} 0 1 = cc in absurd (omega arith)
+predicated-only false controls unpredicated may e f = let z : _≡_ {A = ℕ} 0 1 = cc in absurd (omega arith)
+
+one-not-zero : (n : ℕ) → n ≡ 1 → eqb n 0 ≡ false
+one-not-zero n h = ne-eqb n 0 (λ z. omega arith)
+
+may-be : (v : Version) (token : ℕ) (letters : List Letter) → bitsLaid v token letters ≡ true → isPredicated token ≡ true →
+    mayBePredicated v (opcodeOf token) letters ≡ true
+may-be v token letters laid p =
+    predicated-only (eqb (bits 31 29 token) 0) (controlsLaid (opcodeOf token) (controlsOf token)) (eqb (bit 28 token) 0)
+    (mayBePredicated v (opcodeOf token) letters) laid (one-not-zero (bit 28 token) (eqb-true _ _ p))
+
+module _ (v : Version) (token : ℕ) (letters : List Letter) (e : entryOf v (opcodeOf token) ≡ listed letters) where
+  bits-by : bitsBy (shapeOf v (opcodeOf token)) token ≡ bitsLaid v token letters
+  unfolding bitsBy
+  bits-by =
+      let destined : mayBePredicated v (opcodeOf token) letters ≡ true → hasDestination letters ≡ true
+      = needs-destination (isThird v) (hasDestination letters) (not (among (opcodeOf token) (DCL ∷ DEF ∷ DEFI ∷ DEFB ∷ []))) in
+      rw (
+        shape-rule v (opcodeOf token) letters e,
+        shape-step v (opcodeOf token) letters e,
+        controls-by (among (opcodeOf token) (IFC ∷ BREAKC ∷ SETP ∷ [])) (eqb (opcodeOf token) TEX) (controlsOf token),
+        step-by letters (mayBePredicated v (opcodeOf token) letters) destined,
+      )
+
+  places-by : bitsLaid v token letters ≡ true → (predicated : Bool) → isPredicated token ≡ predicated →
+      placesBy (shapeOf v (opcodeOf token)) token ≡ digits (places token letters)
+  unfolding placesBy
+  places-by laid false p =
+      rw (p, shape-places v (opcodeOf token) letters e, without-predicate (placesFrom (opcodeOf token) 0 letters))
+  places-by laid true p =
+      let may = may-be v token letters laid p in
+      rw (
+        p,
+        shape-places v (opcodeOf token) letters e,
+        shape-step v (opcodeOf token) letters e,
+        may,
+        ← length-places (opcodeOf token) 0 letters,
+        digits-predicated (placesFrom (opcodeOf token) 0 letters),
+      )
+
+  some : shapeOf v (opcodeOf token) ≡ 0 → ⊥
+  some z =
+      let none : entryOf v (opcodeOf token) ≡ absent = shape-zero v (opcodeOf token) z in
+      let zero-one : _≡_ {A = ℕ} 0 1 = cc in
+      omega arith
+
+  head-listed : (laid : Bool) → bitsLaid v token letters ≡ laid →
+      headBy (shapeOf v (opcodeOf token)) token ≡ encoded (headOf v token (listed letters))
+  unfolding headBy
+  head-listed false b = rw (ne-eqb _ _ some, bits-by, b)
+  head-listed true b =
+      rw (
+        ne-eqb _ _ some,
+        bits-by,
+        b,
+        places-by b (isPredicated token) refl,
+        encoded-pick (eqb (opcodeOf token) DCL) (dcl (statedSize token)) (operation (places token letters) (statedSize token)),
+      )
+
+head-shaped : (v : Version) (token : ℕ) (entry : Entry) → entryOf v (opcodeOf token) ≡ entry →
+    headBy (shapeOf v (opcodeOf token)) token ≡ encoded (headOf v token entry)
+unfolding headBy
+head-shaped v token absent e = rw (shape-absent v (opcodeOf token) e)
+head-shaped v token (listed letters) e = head-listed v token letters e (bitsLaid v token letters) refl
+
+pub head-other : (v : Version) (token : ℕ) → (opcodeOf token ≡ commentOpcode → ⊥) → (opcodeOf token ≡ endOpcode → ⊥) →
+    encoded (head v token) ≡ headBy (shapeOf v (opcodeOf token)) token
+unfolding head
+head-other v token no-comment no-end = rw (ne-eqb _ _ no-comment, ne-eqb _ _ no-end) (sym (head-shaped v token (entryOf v (opcodeOf token)) refl))
+
+-- the places that a head gives are read back from their number
+module _ (v : Version) (token : ℕ) (letters : List Letter) (e : entryOf v (opcodeOf token) ≡ listed letters) (laid : bitsLaid v token letters ≡ true) where
+  places-decoded : (predicated : Bool) → isPredicated token ≡ predicated → decoded (digits (places token letters)) ≡ places token letters
+  places-decoded false p =
+      rw (p, without-predicate (placesFrom (opcodeOf token) 0 letters)) (decoded-digits v (opcodeOf token) letters e)
+  places-decoded true p =
+      let may = may-be v token letters laid p in
+      rw (p, ← digits-predicated (placesFrom (opcodeOf token) 0 letters), length-places (opcodeOf token) 0 letters)
+      (rw may at (decoded-predicated v (opcodeOf token) letters e may))
+
+module _ (v : Version) (token : ℕ) (ps : List ℕ) (size : ℕ) where
+  listed-decoded : (letters : List Letter) → entryOf v (opcodeOf token) ≡ listed letters → (laid isDcl : Bool) → bitsLaid v token letters ≡ laid →
+      pick laid (pick isDcl (dcl (statedSize token)) (operation (places token letters) (statedSize token))) (broken BITS) ≡ operation ps size →
+      decoded (digits ps) ≡ ps
+  listed-decoded letters e true true b h = let z : _≡_ {A = ℕ} 0 1 = cc in absurd (omega arith)
+  listed-decoded letters e true false b h =
+      let same : places token letters ≡ ps = cc in
+      rw same at (places-decoded v token letters e b (isPredicated token) refl)
+  listed-decoded letters e false isDcl b h = let z : _≡_ {A = ℕ} 0 1 = cc in absurd (omega arith)
+
+  entry-decoded : (entry : Entry) → entryOf v (opcodeOf token) ≡ entry → headOf v token entry ≡ operation ps size → decoded (digits ps) ≡ ps
+  entry-decoded absent e h = let z : _≡_ {A = ℕ} 0 1 = cc in absurd (omega arith)
+  entry-decoded (listed letters) e h = listed-decoded letters e (bitsLaid v token letters) (eqb (opcodeOf token) DCL) refl h
+
+  head-cases : (isComment commented isEnd ended : Bool) →
+      pick isComment (pick commented (comment (commentLength token)) (broken BITS))
+      (pick isEnd (pick ended end (broken BITS)) (headOf v token (entryOf v (opcodeOf token)))) ≡ operation ps size →
+      decoded (digits ps) ≡ ps
+  head-cases true true isEnd ended h = let z : _≡_ {A = ℕ} 0 1 = cc in absurd (omega arith)
+  head-cases true false isEnd ended h = let z : _≡_ {A = ℕ} 0 1 = cc in absurd (omega arith)
+  head-cases false commented true true h = let z : _≡_ {A = ℕ} 0 1 = cc in absurd (omega arith)
+  head-cases false commented true false h = let z : _≡_ {A = ℕ} 0 1 = cc in absurd (omega arith)
+  head-cases false commented false ended h = entry-decoded (entryOf v (opcodeOf token)) refl h
+
+  pub head-decoded : head v token ≡ operation ps size → decoded (digits ps) ≡ ps
+  unfolding head
+  head-decoded h = head-cases (eqb (opcodeOf token) commentOpcode) (commentLaid token) (eqb (opcodeOf token) endOpcode) (eqb token endToken) h
+
+-- an instruction by its head: RUN-OUT where it claims more than there is
+abbrev pub claimed : Version → Head → ℕ → List ℕ → Judged
+claimed v h first rest =
+    pick (leb (claimOf h) (length rest)) (judgedBy v h first (take (claimOf h) rest)) (Unfit (refusal RUN-OUT 0))
+
+by-head : (v : Version) (first : ℕ) (rest : List ℕ) (h : Said) → head v first ≡ h →
+    onHead v h (classOf (opcodeOf first)) rest ≡ claimed v (encoded h) first rest
+by-head v first rest (broken reason) e = rw (leb·zero (length rest))
+by-head v first rest end e = rw (leb·zero (length rest))
+by-head v first rest (comment n) e = refl
+by-head v first rest (dcl size) e = refl
+by-head v first rest (operation ps size) e = rw (head-decoded v first ps size e)
+
+pub judged-none : (v : Version) (tokens : List ℕ) → length tokens ≡ 0 → judged v tokens ≡ Unfit (refusal RUN-OUT 0)
+unfolding judged
+judged-none v [] h = refl
+judged-none v (first ∷ rest) h = absurd (omega arith)
+
+pub judged-some : (v : Version) (tokens : List ℕ) → (length tokens ≡ 0 → ⊥) →
+    judged v tokens ≡ claimed v (encoded (head v (getD tokens 0 0))) (getD tokens 0 0) (drop 1 tokens)
+unfolding judged
+judged-some v [] h = absurd (h refl)
+judged-some v (first ∷ rest) h = by-head v first rest (head v first) refl

@@ -1,0 +1,21 @@
+-- `opcodes::flow_row` meets its contract.
+use borrow.Author.Needs.{needs}
+use Rattle.opcodes.proofs.Decided.{decisions}
+use Rattle.opcodes.proofs.flow_row.Statement.{statement}
+use Rattle.opcodes.proofs.flow_row.Tie as tie
+
+pub flow-row-spec : {M : Type 1} → statement M
+flow-row-spec =
+    tie.close
+    (tie.spec
+    (λ c. search decisions depth 12)
+    (λ c. search decisions depth 12)
+    (λ c. search decisions depth 12)
+    (λ c. search decisions depth 12)
+    (λ c. search decisions depth 12)
+    (λ c. search decisions depth 12)
+    (λ c. search decisions depth 12)
+    (λ c. search decisions depth 12)
+    (λ c. search decisions depth 12)
+    (λ c κs. search needs)
+    (λ c. search decisions depth 12))

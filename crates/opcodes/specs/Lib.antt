@@ -1,0 +1,4 @@
+-- The opcode table as the code looks it up.
+pub mod Shape
+pub mod Rows
+pub mod Places

@@ -1,0 +1,89 @@
+-- What is told of an answer leaves one answer: each definition of "The numbers given back" is one-to-one.
+use mathlib.Core.Path.{_≡_, refl, ap, sym, _∙_}
+use mathlib.Core.List.{List, [], _∷_}
+use Prim.Native.Nat.{ℕ, suc, _<_}
+use native.Mathlib.Omega.{arith}
+use lib.ListN.{getD}
+use Rattle.paper.specs.Numbers.{numberOf, refusal, Told, told, toldToken, ToldInstruction, toldInstruction}
+use Rattle.paper.specs.declared.Reason.{Reason}
+use Rattle.paper.specs.declared.Reason.the-variants.{Length as LENGTH, Version as VERSION, Opcode as OPCODE, Bits as BITS, RunOut as RUN-OUT, Size as SIZE, Operand as OPERAND, Register as REGISTER, Block as BLOCK, Depth as DEPTH, Tail as TAIL, Place as PLACE, Room as ROOM, Record as RECORD}
+use Rattle.paper.specs.declared.Refusal.{Refusal}
+use Rattle.paper.specs.declared.Token.{Token}
+use Rattle.paper.specs.declared.Token.the-variants.{Good as GoodToken, Bad as BadToken}
+use Rattle.paper.specs.declared.Judged.{Judged}
+use Rattle.paper.specs.declared.Judged.the-variants.{Good as GoodInstruction, Refused as RefusedInstruction}
+use Rattle.paper.specs.declared.Verdict.{Verdict}
+use Rattle.paper.specs.declared.Verdict.the-variants.{Accepted, Refused}
+
+-- the reasons in the order of their numbers
+byNumber : List Reason
+byNumber = LENGTH ∷ LENGTH ∷ VERSION ∷ OPCODE ∷ BITS ∷ RUN-OUT ∷ SIZE ∷ OPERAND ∷ REGISTER ∷ BLOCK ∷ DEPTH ∷ TAIL ∷ PLACE ∷ ROOM ∷ RECORD ∷ []
+
+back : (r : Reason) → getD byNumber (numberOf r) LENGTH ≡ r
+unfolding byNumber
+back LENGTH = refl
+back VERSION = refl
+back OPCODE = refl
+back BITS = refl
+back RUN-OUT = refl
+back SIZE = refl
+back OPERAND = refl
+back REGISTER = refl
+back BLOCK = refl
+back DEPTH = refl
+back TAIL = refl
+back PLACE = refl
+back ROOM = refl
+back RECORD = refl
+
+pub same-reason : (a b : Reason) → numberOf a ≡ numberOf b → a ≡ b
+same-reason a b e = sym (back a) ∙ ap (λ (n : ℕ). getD byNumber n LENGTH) e ∙ back b
+
+-- no refusal has the number of a yes
+some : (r : Reason) → 0 < numberOf r
+some LENGTH = omega arith
+some VERSION = omega arith
+some OPCODE = omega arith
+some BITS = omega arith
+some RUN-OUT = omega arith
+some SIZE = omega arith
+some OPERAND = omega arith
+some REGISTER = omega arith
+some BLOCK = omega arith
+some DEPTH = omega arith
+some TAIL = omega arith
+some PLACE = omega arith
+some ROOM = omega arith
+some RECORD = omega arith
+
+pub no-reason-zero : (r : Reason) → 0 ≡ numberOf r → ⊥
+no-reason-zero r e = omega (arith, some r)
+
+same-refusal : (a b : Refusal) → numberOf (a .reason) ≡ numberOf (b .reason) → a .position ≡ b .position → a ≡ b
+same-refusal a b number position =
+    ap (λ (x : Reason). refusal x (a .position)) (same-reason (a .reason) (b .reason) number)
+    ∙ ap (refusal (b .reason)) position
+
+pub same-token : (a b : Token) → toldToken a ≡ toldToken b → a ≡ b
+same-token GoodToken GoodToken e = refl
+same-token GoodToken (BadToken b) e = absurd (no-reason-zero b e)
+same-token (BadToken a) GoodToken e = absurd (no-reason-zero a (sym e))
+same-token (BadToken a) (BadToken b) e = ap BadToken (same-reason a b e)
+
+pub same-instruction : (a b : Judged) → toldInstruction a ≡ toldInstruction b → a ≡ b
+same-instruction (GoodInstruction n c) (GoodInstruction m d) e =
+    let takes : suc n ≡ suc m = ap (λ (t : ToldInstruction). t .takes) e in
+    let size : n ≡ m = omega arith in
+    let class : c ≡ d = ap (λ (t : ToldInstruction). t .class) e in
+    cc
+same-instruction (GoodInstruction n c) (RefusedInstruction b) e = absurd (no-reason-zero (b .reason) (ap (λ (t : ToldInstruction). t .number) e))
+same-instruction (RefusedInstruction a) (GoodInstruction m d) e = absurd (no-reason-zero (a .reason) (sym (ap (λ (t : ToldInstruction). t .number) e)))
+same-instruction (RefusedInstruction a) (RefusedInstruction b) e =
+    ap RefusedInstruction (same-refusal a b (ap (λ (t : ToldInstruction). t .number) e) (ap (λ (t : ToldInstruction). t .position) e))
+
+pub same-verdict : (a b : Verdict) → told a ≡ told b → a ≡ b
+same-verdict (Accepted n) (Accepted m) e = ap Accepted (ap (λ (t : Told). t .count) e)
+same-verdict (Accepted n) (Refused b) e = absurd (no-reason-zero (b .reason) (ap (λ (t : Told). t .number) e))
+same-verdict (Refused a) (Accepted m) e = absurd (no-reason-zero (a .reason) (sym (ap (λ (t : Told). t .number) e)))
+same-verdict (Refused a) (Refused b) e =
+    ap Refused (same-refusal a b (ap (λ (t : Told). t .number) e) (ap (λ (t : Told). t .position) e))

@@ -1,0 +1,101 @@
+-- Document 01, "The numbers given back": the order within one instruction. "OPCODE, BITS, RUN-OUT, operands left to right
+-- (an operand beyond the stated size is SIZE; each token: layout, then type), SIZE for tokens left over".
+-- Positions count from the instruction's first token.
+use Prim.Native.Nat.{ℕ, zero, suc, _+_}
+use mathlib.Core.Bool.{Bool, true, false}
+use mathlib.Core.List.{List, [], _∷_}
+use lib.Dec.{eqb, leb}
+use lib.ListN.{length, take, drop}
+use Rattle.paper.specs.Notation.{bit, pick}
+use Rattle.paper.specs.Numbers.{refusal}
+use Rattle.paper.specs.OpcodeTable.{Letter, Entry, absent, listed, entryOf, DCL}
+use Rattle.paper.specs.InstructionToken.{opcodeOf, statedSize, isPredicated, bitsLaid, commentOpcode, commentLength, commentLaid, endOpcode, endToken}
+use Rattle.paper.specs.OperandTokens.{relative, tokenAt, bringsRelative, placesFrom, withPredicate, leftOver}
+use Rattle.paper.specs.Dcl.{declaration}
+use Rattle.paper.specs.Blocks.{classOf}
+use Rattle.paper.specs.declared.Version.{Version}
+use Rattle.paper.specs.declared.Reason.{Reason}
+use Rattle.paper.specs.declared.Reason.the-variants.{Opcode as OPCODE, Bits as BITS, RunOut as RUN-OUT, Size as SIZE}
+use Rattle.paper.specs.declared.Token.{Token}
+use Rattle.paper.specs.declared.Token.the-variants.{Good as good, Bad as bad}
+use Rattle.paper.specs.declared.Refusal.{Refusal}
+use Rattle.paper.specs.declared.Taken.{Taken}
+use Rattle.paper.specs.declared.Taken.the-variants.{Took as took, Refused as refused}
+use Rattle.paper.specs.declared.Operands.{Operands}
+use Rattle.paper.specs.declared.Operands.the-variants.{Fit, Refused as unfit}
+use Rattle.paper.specs.declared.Class.{Class}
+use Rattle.paper.specs.declared.Class.the-variants.{One, Closes}
+use Rattle.paper.specs.declared.Single.the-variants.{Comment}
+use Rattle.paper.specs.declared.Closer.the-variants.{End}
+use Rattle.paper.specs.declared.Judged.{Judged}
+use Rattle.paper.specs.declared.Judged.the-variants.{Good, Refused}
+
+-- what an instruction's first token says by itself: a refusal; END; a comment and its length; a DCL and its stated size;
+-- another instruction, the places of its operands and its stated size
+pub data Head : Type 0 where
+  broken : Reason → Head
+  end : Head
+  comment : ℕ → Head
+  dcl : ℕ → Head
+  operation : List ℕ → ℕ → Head
+
+abbrev pub places : ℕ → List Letter → List ℕ
+places token letters = withPredicate (isPredicated token) (placesFrom (opcodeOf token) 0 letters)
+
+abbrev pub headOf : Version → ℕ → Entry → Head
+headOf v token absent = broken OPCODE
+headOf v token (listed letters) =
+    pick (bitsLaid v token letters)
+    (pick (eqb (opcodeOf token) DCL) (dcl (statedSize token)) (operation (places token letters) (statedSize token)))
+    (broken BITS)
+
+unfoldable pub head : Version → ℕ → Head
+head v token =
+    pick (eqb (opcodeOf token) commentOpcode) (pick (commentLaid token) (comment (commentLength token)) (broken BITS))
+    (pick (eqb (opcodeOf token) endOpcode) (pick (eqb token endToken) end (broken BITS))
+    (headOf v token (entryOf v (opcodeOf token))))
+
+-- an operand takes one or two of the tokens that are left, or is refused
+abbrev pub onToken : Token → ℕ → Taken → Taken
+onToken good offset next = next
+onToken (bad reason) offset next = refused (refusal reason offset)
+
+abbrev pub relativeToken : Version → ℕ → List ℕ → Taken
+relativeToken v offset [] = refused (refusal SIZE 0)
+relativeToken v offset (token ∷ rest) = onToken (tokenAt v relative token) offset (took 2)
+
+unfoldable pub operand : Version → ℕ → ℕ → List ℕ → Taken
+operand v place offset [] = refused (refusal SIZE 0)
+operand v place offset (token ∷ rest) =
+    onToken (tokenAt v place token) offset
+    (pick (bringsRelative place token) (relativeToken v (offset + 1) rest) (took 1))
+
+abbrev pub onTaken : Taken → (ℕ → Operands) → Operands
+onTaken (took n) next = next n
+onTaken (refused r) next = unfit r
+
+-- the places from left to right, with the offset of the next token and the tokens of the stated size that are left
+unfoldable pub operands : Version → List ℕ → ℕ → List ℕ → Operands
+operands v [] offset tokens = leftOver tokens
+operands v (place ∷ rest) offset tokens =
+    onTaken (operand v place offset tokens) (λ n. operands v rest (offset + n) (drop n tokens))
+
+abbrev pub onOperands : Operands → ℕ → Class → Judged
+onOperands Fit size class = Good size class
+onOperands (unfit r) size class = Refused r
+
+-- "stated size or comment length passes the end"
+abbrev pub within : ℕ → List ℕ → Judged → Judged
+within size rest next = pick (leb size (length rest)) next (Refused (refusal RUN-OUT 0))
+
+abbrev pub onHead : Version → Head → Class → List ℕ → Judged
+onHead v (broken reason) class rest = Refused (refusal reason 0)
+onHead v end class rest = Good 0 (Closes End)
+onHead v (comment length) class rest = within length rest (Good length (One Comment))
+onHead v (dcl size) class rest = within size rest (onOperands (declaration v (take size rest)) size class)
+onHead v (operation places size) class rest = within size rest (onOperands (operands v places 1 (take size rest)) size class)
+
+-- "no token where an instruction must start" is RUN-OUT at the token count
+unfoldable pub judged : Version → List ℕ → Judged
+judged v [] = Refused (refusal RUN-OUT 0)
+judged v (token ∷ rest) = onHead v (head v token) (classOf (opcodeOf token)) rest

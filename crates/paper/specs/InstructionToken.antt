@@ -1,0 +1,65 @@
+-- Document 01, "Instruction token": its bits, the comment and END.
+use Prim.Native.Nat.{ℕ}
+use mathlib.Core.Bool.{Bool, true, false, not, _&&_, _||_}
+use mathlib.Core.List.{List, [], _∷_}
+use lib.Dec.{eqb, leb}
+use Rattle.paper.specs.Notation.{bits, bit, pick, among}
+use Rattle.paper.specs.Versions.{isThird}
+use Rattle.paper.specs.OpcodeTable.{Letter, D, S, R, U, IFC, BREAKC, SETP, TEX, DCL, DEF, DEFI, DEFB}
+use Rattle.paper.specs.declared.Version.{Version}
+
+abbrev pub opcodeOf : ℕ → ℕ
+opcodeOf token = bits 15 0 token
+
+abbrev pub controlsOf : ℕ → ℕ
+controlsOf token = bits 23 16 token
+
+-- "Bits 27:24 are the size without this token."
+abbrev pub statedSize : ℕ → ℕ
+statedSize token = bits 27 24 token
+
+-- "Bit 28 says predicated"
+abbrev pub isPredicated : ℕ → Bool
+isPredicated token = eqb (bit 28 token) 1
+
+abbrev pub hasDestination : List Letter → Bool
+hasDestination [] = false
+hasDestination (D ∷ letters) = true
+hasDestination (S ∷ letters) = hasDestination letters
+hasDestination (R ∷ letters) = hasDestination letters
+hasDestination (U ∷ letters) = hasDestination letters
+
+-- "only V3 and P3, and only with a D below other than DCL, DEF, DEFI, DEFB"
+abbrev pub mayBePredicated : Version → ℕ → List Letter → Bool
+mayBePredicated v opcode letters =
+    isThird v && (hasDestination letters && not (among opcode (DCL ∷ DEF ∷ DEFI ∷ DEFB ∷ [])))
+
+-- "Bits 23:16 are 1 to 6 for IFC, BREAKC, SETP; 0 to 2 for TEX; else 0."
+abbrev pub controlsLaid : ℕ → ℕ → Bool
+controlsLaid opcode controls =
+    pick (among opcode (IFC ∷ BREAKC ∷ SETP ∷ [])) (leb 1 controls && leb controls 6)
+    (pick (eqb opcode TEX) (leb controls 2) (eqb controls 0))
+
+-- "Bits 29 to 31 are zero."
+abbrev pub bitsLaid : Version → ℕ → List Letter → Bool
+bitsLaid v token letters =
+    eqb (bits 31 29 token) 0
+    && (controlsLaid (opcodeOf token) (controlsOf token)
+    && (eqb (bit 28 token) 0 || mayBePredicated v (opcodeOf token) letters))
+
+-- "Comment: bits 15:0 are FFFE, 30:16 the number of tokens of any content that follow, bit 31 zero."
+abbrev pub commentOpcode : ℕ
+commentOpcode = 0xFFFE
+
+abbrev pub commentLength : ℕ → ℕ
+commentLength token = bits 30 16 token
+
+abbrev pub commentLaid : ℕ → Bool
+commentLaid token = eqb (bit 31 token) 0
+
+-- "END is exactly 0000FFFF."
+abbrev pub endOpcode : ℕ
+endOpcode = 0xFFFF
+
+abbrev pub endToken : ℕ
+endToken = 0x0000FFFF

@@ -1,0 +1,99 @@
+// The words of document 01 that code and definitions share. The definitions themselves stand in specs/, a file to a section.
+
+// "The base knows four versions."
+pub enum Version {
+    V2,
+    V3,
+    P2,
+    P3,
+}
+
+// What a first token, or a version that is passed, stands for.
+pub enum Named {
+    Known(Version),
+    Unknown,
+}
+
+// "The numbers given back", by name.
+pub enum Reason {
+    Length,
+    Version,
+    Opcode,
+    Bits,
+    RunOut,
+    Size,
+    Operand,
+    Register,
+    Block,
+    Depth,
+    Tail,
+    Place,
+    Room,
+    Record,
+}
+
+// A refusal: why, and the position of a token.
+pub struct Refusal {
+    pub reason: Reason,
+    pub position: usize,
+}
+
+// "An item is one instruction or a block": what an instruction is to the blocks around it.
+pub enum Single {
+    Comment,
+    Plain,
+    Break,
+    Label,
+    Return,
+}
+
+pub enum Opener {
+    If,
+    Loop,
+    Rep,
+}
+
+pub enum Closer {
+    Else,
+    EndIf,
+    EndLoop,
+    EndRep,
+    End,
+}
+
+pub enum Class {
+    One(Single),
+    Opens(Opener),
+    Closes(Closer),
+}
+
+// One token, judged at its place.
+pub enum Token {
+    Good,
+    Bad(Reason),
+}
+
+// One operand, judged: how many tokens it takes.
+pub enum Taken {
+    Took(usize),
+    Refused(Refusal),
+}
+
+// The operands of an instruction, judged: they take its tokens, no fewer and no more.
+pub enum Operands {
+    Fit,
+    Refused(Refusal),
+}
+
+// One instruction, judged: how many tokens it takes behind its first one, and its class.
+// A refusal's position counts from the instruction.
+pub enum Judged {
+    Good(usize, Class),
+    Refused(Refusal),
+}
+
+// A whole stream, judged: the number of its instructions.
+pub enum Verdict {
+    Accepted(usize),
+    Refused(Refusal),
+}
