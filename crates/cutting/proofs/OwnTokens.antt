@@ -5,19 +5,18 @@ use mathlib.Core.List.{List, [], _∷_, _++_}
 use Prim.Native.Nat.{ℕ, suc, _/_, _<_, _≤_}
 use native.Mathlib.Nat.{mod-lt}
 use native.Mathlib.Omega.{arith}
-use lib.Dec.{eqb, leb, lit<}
+use lib.Dec.{leb, lit<}
 use lib.ListN.{length, take, length-append}
 use lib.Seq.{take-at, length-take-le}
 use borrow.Author.Tests.{le-leb, leb-true}
 use Rattle.paper.specs.Notation.{pick}
 use Rattle.paper.specs.Numbers.{refusal}
-use Rattle.paper.specs.OpcodeTable.{Letter, Entry, absent, listed, entryOf, DCL}
-use Rattle.paper.specs.InstructionToken.{opcodeOf, statedSize, bitsLaid, commentOpcode, commentLaid, commentLength, endOpcode, endToken}
+use Rattle.paper.specs.InstructionToken.{opcodeOf, statedSize, commentLength}
 use Rattle.paper.specs.Dcl.{declaration}
-use Rattle.paper.specs.Instruction.{Head, broken, end, comment, dcl, operation, places, headOf, head, operands, onOperands, within, onHead, judged}
+use Rattle.paper.specs.Instruction.{Head, broken, end, comment, dcl, operation, head, operands, onOperands, within, onHead, judged}
 use Rattle.paper.specs.Blocks.{classOf}
 use Rattle.paper.specs.declared.Version.{Version}
-use Rattle.paper.specs.declared.Reason.the-variants.{Bits as BITS, RunOut as RUN-OUT}
+use Rattle.paper.specs.declared.Reason.the-variants.{RunOut as RUN-OUT}
 use Rattle.paper.specs.declared.Operands.{Operands}
 use Rattle.paper.specs.declared.Operands.the-variants.{Fit, Refused as Unfit}
 use Rattle.paper.specs.declared.Single.the-variants.{Comment}
@@ -26,8 +25,9 @@ use Rattle.paper.specs.declared.Class.the-variants.{One}
 use Rattle.paper.specs.declared.Judged.{Judged}
 use Rattle.paper.specs.declared.Judged.the-variants.{Good, Refused}
 use Rattle.cutting.specs.Claim.{claim}
+use Rattle.cutting.proofs.FirstToken.{by-first}
 
-apart : {A : Type 0} → _≡_ {A = ℕ} 0 1 → A
+pub apart : {A : Type 0} → _≡_ {A = ℕ} 0 1 → A
 apart e = absurd (omega arith)
 
 -- what is claimed and then something else, of which the claimed tokens are the first
@@ -60,27 +60,35 @@ own-tokens v first rest other there = same-head v (classOf (opcodeOf first)) res
 
 -- a good instruction is as long as its first token claims
 module _ (size : ℕ) (class : Class) where
-  fit-size : (o : Operands) (n : ℕ) (c : Class) → onOperands o n c ≡ Good size class → n ≡ size
-  fit-size Fit n c e = cc
-  fit-size (Unfit r) n c e = apart (cc)
+  fit : (o : Operands) (n : ℕ) (c : Class) → onOperands o n c ≡ Good size class → (o ≡ Fit) × (n ≡ size) × (c ≡ class)
+  fit Fit n c e = (refl, cc, cc)
+  fit (Unfit r) n c e = apart (cc)
 
-  within-good : (there : Bool) (next : Judged) → pick there next (Refused (refusal RUN-OUT 0)) ≡ Good size class → (there ≡ true) × (next ≡ Good size class)
-  within-good true next e = (refl, e)
-  within-good false next e = apart (cc)
+  pub within-good : (n : ℕ) (rest : List ℕ) (next : Judged) → within n rest next ≡ Good size class → (n ≤ length rest) × (next ≡ Good size class)
+  within-good n rest next e = there (leb n (length rest)) refl e
+    where
+      there : (test : Bool) → leb n (length rest) ≡ test → pick test next (Refused (refusal RUN-OUT 0)) ≡ Good size class →
+          (n ≤ length rest) × (next ≡ Good size class)
+      there true t e = (leb-true n (length rest) t, e)
+      there false t e = apart (cc)
+
+  -- where an instruction with operands is good, they fit, and its size and its class are those told
+  pub good-operands : (o : Operands) (n : ℕ) (c : Class) (rest : List ℕ) → within n rest (onOperands o n c) ≡ Good size class →
+      (n ≤ length rest) × (o ≡ Fit) × (n ≡ size) × (c ≡ class)
+  good-operands o n c rest e =
+      let g = within-good n rest (onOperands o n c) e in
+      let f = fit o n c (g .1) in
+      (g .0, f .0, f .1, f .2)
 
   head-good : (v : Version) (c : Class) (h : Head) (rest : List ℕ) → onHead v h c rest ≡ Good size class → (claim h ≡ size) × (claim h ≤ length rest)
   head-good v c (broken reason) rest e = apart (cc)
   head-good v c end rest e = (cc, omega arith)
   head-good v c (comment n) rest e =
-      let g = within-good (leb n (length rest)) (Good n (One Comment)) e in
+      let g = within-good n rest (Good n (One Comment)) e in
       let same : Good n (One Comment) ≡ Good size class = g .1 in
-      (cc, leb-true n (length rest) (g .0))
-  head-good v c (dcl n) rest e =
-      let g = within-good (leb n (length rest)) (onOperands (declaration v (take n rest)) n c) e in
-      (fit-size (declaration v (take n rest)) n c (g .1), leb-true n (length rest) (g .0))
-  head-good v c (operation ps n) rest e =
-      let g = within-good (leb n (length rest)) (onOperands (operands v ps 1 (take n rest)) n c) e in
-      (fit-size (operands v ps 1 (take n rest)) n c (g .1), leb-true n (length rest) (g .0))
+      (cc, g .0)
+  head-good v c (dcl n) rest e = let g = good-operands (declaration v (take n rest)) n c rest e in (g .2, g .0)
+  head-good v c (operation ps n) rest e = let g = good-operands (operands v ps 1 (take n rest)) n c rest e in (g .2, g .0)
 
   pub good-claim : (v : Version) (first : ℕ) (rest : List ℕ) → judged v (first ∷ rest) ≡ Good size class →
       (claim (head v first) ≡ size) × (claim (head v first) ≤ length rest)
@@ -105,30 +113,11 @@ module _ (size : ℕ) (class : Class) where
 small : (token : ℕ) → statedSize token < 16
 small token = mod-lt (token / 16777216) (lit< tt)
 
-abbrev Short : Head → Type 0
-Short h = ((n : ℕ) → h ≡ comment n → ⊥) → suc (claim h) ≤ 16
-
-short-listed : (token : ℕ) (letters : List Letter) (laid isDcl : Bool) →
-    Short (pick laid (pick isDcl (dcl (statedSize token)) (operation (places token letters) (statedSize token))) (broken BITS))
-short-listed token letters true true none = small token
-short-listed token letters true false none = small token
-short-listed token letters false isDcl none = omega arith
-
-short-entry : (v : Version) (token : ℕ) (entry : Entry) → Short (headOf v token entry)
-short-entry v token absent none = omega arith
-short-entry v token (listed letters) none = short-listed token letters (bitsLaid v token letters) (eqb (opcodeOf token) DCL) none
-
-short-cases : (v : Version) (token : ℕ) (isComment commented isEnd ended : Bool) →
-    Short
-    (pick isComment (pick commented (comment (commentLength token)) (broken BITS))
-    (pick isEnd (pick ended end (broken BITS)) (headOf v token (entryOf v (opcodeOf token)))))
-short-cases v token true true isEnd ended none = absurd (none (commentLength token) refl)
-short-cases v token true false isEnd ended none = omega arith
-short-cases v token false commented true true none = omega arith
-short-cases v token false commented true false none = omega arith
-short-cases v token false commented false ended none = short-entry v token (entryOf v (opcodeOf token)) none
-
 pub sixteen : (v : Version) (token : ℕ) → ((n : ℕ) → head v token ≡ comment n → ⊥) → suc (claim (head v token)) ≤ 16
-unfolding head
-sixteen v token none =
-    short-cases v token (eqb (opcodeOf token) commentOpcode) (commentLaid token) (eqb (opcodeOf token) endOpcode) (eqb token endToken) none
+sixteen v token =
+    by-first v token (λ h. ((n : ℕ) → h ≡ comment n → ⊥) → suc (claim h) ≤ 16)
+    (λ reason none. omega arith)
+    (λ c n none. absurd (none (commentLength token) refl))
+    (λ c n none. omega arith)
+    (λ c n d none. small token)
+    (λ letters c n d l none. small token)
