@@ -1,12 +1,17 @@
 -- An operand by the place of its tokens among those behind the instruction token.
 use mathlib.Core.Path.{_≡_, refl, sym, _∙_}
-use mathlib.Core.Bool.{Bool, true, false}
+use mathlib.Core.Bool.{Bool, true, false, _||_, _&&_}
 use mathlib.Core.List.{List, [], _∷_}
 use Prim.Native.Nat.{ℕ, suc, _+_, _/_, _%_, _^_, _<_, _≤_}
 use native.Mathlib.Numerals.{add-one}
 use native.Mathlib.Omega.{arith}
+use lib.Dec.{eqb, leb, ltb}
 use lib.ListN.{length, drop, getD, length-drop, drop-of-length-le}
 use lib.Seq.{drop-cons, drop-drop}
+use borrow.Author.Tests.{ne-eqb, leb-true, ltb-true}
+use Rattle.paper.specs.Blocks.{classOf}
+use Rattle.paper.specs.declared.Single.the-variants.{Plain}
+use Rattle.paper.specs.declared.Class.the-variants.{One}
 use Rattle.paper.specs.Notation.{pick}
 use Rattle.paper.specs.Numbers.{refusal}
 use Rattle.paper.specs.OperandTokens.{relative, tokenAt, bringsRelative}
@@ -90,3 +95,42 @@ module _ (v : Version) (left offset at : ℕ) (behind : List ℕ) (none : left �
   pub operands-over : at ≤ length behind → (at ≡ length behind → ⊥) → operands v (decoded left) offset (drop at behind) ≡ Unfit (refusal SIZE 0)
   unfolding operands
   operands-over h more = rw (none, decoded-zero, drop-cons behind at 0 (omega arith))
+
+-- an opcode below, between or above those of the blocks computes
+module _ (opcode : ℕ) (other : (k : ℕ) → 25 ≤ k → k ≤ 45 → opcode ≡ k → ⊥) (no-predicate : opcode ≡ 96 → ⊥) where
+  not-nested : (k : ℕ) → leb 25 k ≡ true → leb k 45 ≡ true → eqb opcode k ≡ false
+  not-nested k low high = ne-eqb opcode k (other k (leb-true 25 k low) (leb-true k 45 high))
+
+  computes : classOf opcode ≡ One Plain
+  unfolding classOf
+  computes =
+      rw (
+        not-nested 40 refl refl,
+        not-nested 41 refl refl,
+        not-nested 27 refl refl,
+        not-nested 38 refl refl,
+        not-nested 42 refl refl,
+        not-nested 43 refl refl,
+        not-nested 29 refl refl,
+        not-nested 39 refl refl,
+        not-nested 44 refl refl,
+        not-nested 45 refl refl,
+        ne-eqb opcode 96 no-predicate,
+        not-nested 30 refl refl,
+        not-nested 28 refl refl,
+      )
+
+plain-by : (opcode : ℕ) (low middle high : Bool) → ltb opcode 25 ≡ low → leb 46 opcode ≡ middle → leb opcode 95 ≡ high →
+    low || (middle && high) ≡ true → classOf opcode ≡ One Plain
+plain-by opcode true middle high l m h t =
+    let below : opcode < 25 = ltb-true opcode 25 l in
+    computes opcode (λ k a b e. omega arith) (λ e. omega arith)
+plain-by opcode false true true l m h t =
+    let above : 46 ≤ opcode = leb-true 46 opcode m in
+    let under : opcode ≤ 95 = leb-true opcode 95 h in
+    computes opcode (λ k a b e. omega arith) (λ e. omega arith)
+plain-by opcode false true false l m h t = let z : _≡_ {A = ℕ} 0 1 = cc in absurd (omega arith)
+plain-by opcode false false high l m h t = let z : _≡_ {A = ℕ} 0 1 = cc in absurd (omega arith)
+
+pub plain-class : (opcode : ℕ) → ltb opcode 25 || (leb 46 opcode && leb opcode 95) ≡ true → classOf opcode ≡ One Plain
+plain-class opcode t = plain-by opcode (ltb opcode 25) (leb 46 opcode) (leb opcode 95) refl refl refl t

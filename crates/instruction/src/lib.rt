@@ -123,6 +123,10 @@ pub fn read_head(version: Version, token: u32) -> Head
 pub fn class_of(opcode: u32) -> Class
     ensures { λ r. ⌜ r ≡ classOf opcode ⌝ }
 {
+    // most instructions compute, and have no opcode among those of the blocks
+    if (opcode < 25) | ((46 <= opcode) & (opcode <= 95)) {
+        return Class::One(Single::Plain);
+    }
     if (opcode == 40) | (opcode == 41) {
         return Class::Opens(Opener::If);
     }

@@ -5,15 +5,15 @@ use mathlib.Core.Bool.{Bool, true, false, _&&_, _||_}
 use mathlib.Core.List.{List, [], _∷_}
 use native.Mathlib.Omega.{arith}
 use lib.Dec.{eqb, ltb}
-use borrow.Author.Tests.{eq-eqb, ne-eqb, ltb-true, eqb-true}
-use Rattle.paper.specs.Notation.{among}
+use borrow.Author.Tests.{eq-eqb, ne-eqb, ltb-true, lt-ltb, le-ltb, eqb-true}
+use Rattle.paper.specs.Notation.{pick, among, holds}
 use Rattle.paper.specs.Versions.{rank}
 use Rattle.paper.specs.OpcodeTable.{Row, absent, lookup, isOne, rows, entryOf}
 use Rattle.paper.specs.OperandTokens.{typedPlaces}
 use Rattle.paper.specs.declared.Version.{Version}
 use Rattle.paper.specs.declared.Version.the-variants.{V2, V3, P2, P3}
 use Rattle.opcodes.specs.Shape.{shapeOf}
-use Rattle.opcodes.specs.Rows.{Decisions, none, test, orOneOf, oneOf, decided, fromNone, third, shapeAt}
+use Rattle.opcodes.specs.Rows.{Decisions, none, test, orOneOf, oneOf, decided, fromNone, third, shapeAt, commonBy}
 use Rattle.opcodes.proofs.Computed.{both-left, both-right, computed}
 
 -- the lowest number above every opcode of the table
@@ -107,3 +107,20 @@ rank-small V2 n h = omega arith
 rank-small V3 n h = omega arith
 rank-small P2 n h = omega arith
 rank-small P3 n h = omega arith
+
+-- a shape that is found among the commonest is the table's
+abbrev commonRight : Version → ℕ → Bool
+commonRight v opcode =
+    pick (ltb opcode 25)
+    (pick (eqb (commonBy (third (rank v)) opcode) 0) true (eqb (commonBy (third (rank v)) opcode) (shapeOf v opcode)))
+    true
+
+common-right : (v : Version) (opcode : ℕ) → commonRight v opcode ≡ true
+unfolding rows entryOf typedPlaces shapeOf holds
+common-right = computed commonRight 25 refl (λ v opcode h. rw (le-ltb opcode 25 h))
+
+pub common-found : (v : Version) (opcode n r : ℕ) → n ≡ rank v → r ≡ commonBy (third n) opcode → opcode < 25 → (r ≡ 0 → ⊥) → r ≡ shapeOf v opcode
+common-found v opcode n r hn hr low some =
+    let h : r ≡ commonBy (third (rank v)) opcode = rw (← hn) hr in
+    let no : eqb (commonBy (third (rank v)) opcode) 0 ≡ false = ne-eqb _ _ (λ e. some (h ∙ e)) in
+    h ∙ eqb-true _ _ (rw (lt-ltb opcode 25 low, no) at (common-right v opcode))

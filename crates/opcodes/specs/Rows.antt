@@ -4,7 +4,7 @@ use mathlib.Core.Bool.{Bool, false, _||_}
 use mathlib.Core.List.{List, [], _∷_}
 use lib.Dec.{eqb}
 use lib.ListN.{length}
-use Rattle.paper.specs.Notation.{pick}
+use Rattle.paper.specs.Notation.{pick, setOf, holds}
 use Rattle.paper.specs.Versions.{rank}
 use Rattle.paper.specs.OpcodeTable.{all, NOP, MOV, ADD, SUB, MAD, MUL, RCP, RSQ, DP3, DP4, MIN, MAX, SLT, SGE, EXP, LOG, LIT, DST, LRP, FRC}
 use Rattle.paper.specs.OpcodeTable.{M4x4, M4x3, M3x4, M3x3, M3x2, POW, CRS, SGN, ABS, NRM, SINCOS, MOVA, EXPP, LOGP, CMP, DP2ADD, DSX, DSY}
@@ -133,3 +133,23 @@ abbrev pub shapeAt : ℕ → ℕ → ℕ
 shapeAt rank row =
     pick (eqb (row / 2 ^ rank % 2) 0) 0
     (pick (third rank) (row / 16) (row / 16 / 2 ^ 38 * 2 ^ 38 + row / 16 % 2 ^ 35))
+
+-- the commonest opcodes, below 25: one, two or three free sources, in every version
+abbrev pub oneSource : ℕ
+oneSource = setOf (MOV ∷ RCP ∷ RSQ ∷ EXP ∷ LOG ∷ FRC ∷ [])
+
+abbrev pub twoSources : ℕ
+twoSources = setOf (ADD ∷ SUB ∷ MUL ∷ DP3 ∷ DP4 ∷ MIN ∷ MAX ∷ M4x4 ∷ M4x3 ∷ M3x4 ∷ M3x3 ∷ M3x2 ∷ [])
+
+abbrev pub threeSources : ℕ
+threeSources = setOf (MAD ∷ LRP ∷ [])
+
+-- the shape of a row of free places, with the predicate's step where the version is a third one
+abbrev pub plainShape : Bool → List ℕ → ℕ
+plainShape third places = pick third (digits places + (2 ^ 35 * length places + 2 ^ 40)) (digits places + 2 ^ 40)
+
+abbrev pub commonBy : Bool → ℕ → ℕ
+commonBy third opcode =
+    pick (holds twoSources opcode) (plainShape third (freeDestination ∷ freeSource ∷ freeSource ∷ []))
+    (pick (holds oneSource opcode) (plainShape third (freeDestination ∷ freeSource ∷ []))
+    (pick (holds threeSources opcode) (plainShape third (freeDestination ∷ freeSource ∷ freeSource ∷ freeSource ∷ [])) 0))

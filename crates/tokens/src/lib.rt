@@ -151,13 +151,19 @@ fn modifier_laid(place: u64, modifier: u32, kind: u32) -> bool
     requires { ⌜ modifier < 16 ⌝ }
     ensures { λ r. ⌜ r ≡ modifierLaid place modifier kind ⌝ }
 {
+    if modifier == 0 {
+        return true;
+    }
     if place == RELATIVE {
-        return modifier == 0;
+        return false;
     }
     if place == PREDICATE {
-        return (modifier == 0) | ((modifier == 13) & (kind == 19));
+        return (modifier == 13) & (kind == 19);
     }
-    ((PLAIN_MODIFIERS >> modifier) % 2 == 1) | ((modifier == 13) & (kind == 19))
+    if (PLAIN_MODIFIERS >> modifier) % 2 == 1 {
+        return true;
+    }
+    (modifier == 13) & (kind == 19)
 }
 
 fn source_laid(version: Version, place: u64, token: u32) -> bool
