@@ -110,6 +110,10 @@ pub fn read_head(version: Version, token: u32) -> Head
     ensures { λ r. ⌜ r ≡ encoded (head version token) ⌝ }
 {
     let opcode = token % 0x1_0000;
+    let common = opcodes::common_places(opcode);
+    if (common != 0) & ((token / 0x1000_0000 == 0) & (token / 0x1_0000 % 0x100 == 0)) {
+        return Head::Operation(common, (token / 0x100_0000 % 16) as usize);
+    }
     if opcode == 0xFFFE {
         return comment_head(token);
     }

@@ -1,37 +1,16 @@
 -- A rule of the table, proved in each version at every opcode below a bound by one test that is computed.
-use Prim.Native.Nat.{ℕ, zero, suc, _≤_, _<_}
-use mathlib.Core.Path.{_≡_, refl, ap, _∙_}
+use Prim.Native.Nat.{ℕ, _≤_}
+use mathlib.Core.Path.{_≡_, refl}
 use mathlib.Core.Bool.{Bool, true, false, _&&_}
-use mathlib.Core.Logic.{⊎-elim}
-use native.Mathlib.Nat.{eq-or-lt-of-le, le-of-suc-le-suc}
-use native.Mathlib.Omega.{arith}
 use lib.Dec.{ltb}
 use borrow.Author.Tests.{ltb-true, ltb-false}
+use Rattle.paper.proofs.Below.{both-left, both-right, below, below-at}
 use Rattle.paper.specs.declared.Version.{Version}
 use Rattle.paper.specs.declared.Version.the-variants.{V2, V3, P2, P3}
-
-pub both-left : (a b : Bool) → a && b ≡ true → a ≡ true
-both-left true b t = refl
-both-left false b t = t
-
-pub both-right : (a b : Bool) → a && b ≡ true → b ≡ true
-both-right true b t = t
-both-right false b t = let z : _≡_ {A = ℕ} 0 1 = cc in absurd (omega arith)
 
 -- the rule at one opcode, in the four versions
 abbrev pub inEach : (Version → ℕ → Bool) → ℕ → Bool
 inEach rule opcode = rule V2 opcode && (rule V3 opcode && (rule P2 opcode && rule P3 opcode))
-
-abbrev pub below : (ℕ → Bool) → ℕ → Bool
-below rule zero = true
-below rule (suc n) = rule n && below rule n
-
-below-at : (rule : ℕ → Bool) (n k : ℕ) → below rule n ≡ true → k < n → rule k ≡ true
-below-at rule zero k t h = absurd (omega arith)
-below-at rule (suc n) k t h =
-    ⊎-elim (λ same. ap rule same ∙ both-left (rule n) (below rule n) t)
-    (λ less. below-at rule n k (both-right (rule n) (below rule n) t) less)
-    (eq-or-lt-of-le (le-of-suc-le-suc h))
 
 inEach-at : (rule : Version → ℕ → Bool) (v : Version) (opcode : ℕ) → inEach rule opcode ≡ true → rule v opcode ≡ true
 inEach-at rule V2 opcode t = both-left (rule V2 opcode) _ t

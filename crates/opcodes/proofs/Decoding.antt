@@ -12,7 +12,7 @@ use borrow.Author.Tests.{eq-eqb, ne-eqb, leb-true, ltb-true}
 use Rattle.paper.specs.OperandTokens.{predicate, withPredicate}
 use Rattle.opcodes.specs.Shape.{digits}
 use Rattle.opcodes.specs.Places.{placesIn, decoded}
-use Rattle.opcodes.proofs.Computed.{both-left, both-right}
+use Rattle.paper.proofs.Below.{both-left, both-right}
 
 -- a number that is a place: a digit of base 128, and not zero
 abbrev pub isPlace : ℕ → Bool

@@ -14,7 +14,8 @@ use Rattle.paper.specs.OperandTokens.{predicate, placesFrom, typedPlaces, withP
 use Rattle.paper.specs.declared.Version.{Version}
 use Rattle.opcodes.specs.Shape.{digits, controlsRule, predicateStep, shapeIn, shapeOf}
 use Rattle.opcodes.specs.Places.{decoded}
-use Rattle.opcodes.proofs.Computed.{both-left, both-right, computed}
+use Rattle.paper.proofs.Below.{both-left, both-right}
+use Rattle.opcodes.proofs.Computed.{computed}
 use Rattle.opcodes.proofs.Table.{limit, beyond}
 use Rattle.opcodes.proofs.Decoding.{arePlaces, decoded-places, predicated-places, predicated-length}
 pub use Rattle.opcodes.proofs.Decoding.{decoded-zero, decoded-step, without-predicate, digits-predicated}
@@ -88,7 +89,7 @@ module _ (v : Version) (opcode : ℕ) (letters : List Letter) (e : entryOf v opc
   listed-fits : fits opcode letters ≡ true
   listed-fits = rw e at (entry-fits v opcode)
 
-  few : length letters ≤ 5
+  pub few : length letters ≤ 5
   few = leb-true (length letters) 5 (both-left (leb (length letters) 5) _ listed-fits)
 
   places-fit : ltb (digits (placesFrom opcode 0 letters)) (2 ^ 35) && arePlaces (placesFrom opcode 0 letters) ≡ true

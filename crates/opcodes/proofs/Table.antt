@@ -1,11 +1,11 @@
 -- The rows that the code decides by are the paper's table: below 97 by one computed test, from 97 on since both name smaller opcodes only.
-use Prim.Native.Nat.{ℕ, _≤_, _<_}
+use Prim.Native.Nat.{ℕ, _/_, _%_, _^_, _≤_, _<_}
 use mathlib.Core.Path.{_≡_, refl, sym, _∙_}
-use mathlib.Core.Bool.{Bool, true, false, _&&_, _||_}
+use mathlib.Core.Bool.{Bool, true, false, not, _&&_, _||_}
 use mathlib.Core.List.{List, [], _∷_}
 use native.Mathlib.Omega.{arith}
-use lib.Dec.{eqb, ltb}
-use borrow.Author.Tests.{eq-eqb, ne-eqb, ltb-true, lt-ltb, le-ltb, eqb-true}
+use lib.Dec.{eqb, leb, ltb}
+use borrow.Author.Tests.{eq-eqb, ne-eqb, ltb-true, le-leb, leb-false, eqb-true, not-true}
 use Rattle.paper.specs.Notation.{pick, among, holds}
 use Rattle.paper.specs.Versions.{rank}
 use Rattle.paper.specs.OpcodeTable.{Row, absent, lookup, isOne, rows, entryOf}
@@ -13,8 +13,9 @@ use Rattle.paper.specs.OperandTokens.{typedPlaces}
 use Rattle.paper.specs.declared.Version.{Version}
 use Rattle.paper.specs.declared.Version.the-variants.{V2, V3, P2, P3}
 use Rattle.opcodes.specs.Shape.{shapeOf}
-use Rattle.opcodes.specs.Rows.{Decisions, none, test, orOneOf, oneOf, decided, fromNone, third, shapeAt, commonBy}
-use Rattle.opcodes.proofs.Computed.{both-left, both-right, computed}
+use Rattle.opcodes.specs.Rows.{Decisions, none, test, orOneOf, oneOf, decided, fromNone, third, shapeAt, commonPlaces}
+use Rattle.paper.proofs.Below.{both-left, both-right}
+use Rattle.opcodes.proofs.Computed.{computed}
 
 -- the lowest number above every opcode of the table
 abbrev pub limit : ℕ
@@ -108,19 +109,34 @@ rank-small V3 n h = omega arith
 rank-small P2 n h = omega arith
 rank-small P3 n h = omega arith
 
--- a shape that is found among the commonest is the table's
+-- the places that are found among the commonest are the table's, and the controls of such an opcode are zero
 abbrev commonRight : Version → ℕ → Bool
 commonRight v opcode =
-    pick (ltb opcode 25)
-    (pick (eqb (commonBy (third (rank v)) opcode) 0) true (eqb (commonBy (third (rank v)) opcode) (shapeOf v opcode)))
-    true
+    pick (eqb (commonPlaces opcode) 0) true
+    (eqb (shapeOf v opcode % 2 ^ 35) (commonPlaces opcode)
+    && (eqb (shapeOf v opcode / 2 ^ 38 % 4) 0 && not (eqb (shapeOf v opcode) 0)))
 
 common-right : (v : Version) (opcode : ℕ) → commonRight v opcode ≡ true
 unfolding rows entryOf typedPlaces shapeOf holds
-common-right = computed commonRight 25 refl (λ v opcode h. rw (le-ltb opcode 25 h))
+common-right = computed commonRight 25 refl (λ v opcode h. rw (le-leb 25 opcode h))
 
-pub common-found : (v : Version) (opcode n r : ℕ) → n ≡ rank v → r ≡ commonBy (third n) opcode → opcode < 25 → (r ≡ 0 → ⊥) → r ≡ shapeOf v opcode
-common-found v opcode n r hn hr low some =
-    let h : r ≡ commonBy (third (rank v)) opcode = rw (← hn) hr in
-    let no : eqb (commonBy (third (rank v)) opcode) 0 ≡ false = ne-eqb _ _ (λ e. some (h ∙ e)) in
-    h ∙ eqb-true _ _ (rw (lt-ltb opcode 25 low, no) at (common-right v opcode))
+pub record Common (v : Version) (opcode : ℕ) : Type 0 where
+  pub low : opcode < 25
+  pub places : shapeOf v opcode % 2 ^ 35 ≡ commonPlaces opcode
+  pub rule : shapeOf v opcode / 2 ^ 38 % 4 ≡ 0
+  pub listed : eqb (shapeOf v opcode) 0 ≡ false
+
+low-by : (opcode : ℕ) (high : Bool) → leb 25 opcode ≡ high → (commonPlaces opcode ≡ 0 → ⊥) → opcode < 25
+low-by opcode true h some = absurd (some (rw h refl))
+low-by opcode false h some = leb-false 25 opcode h
+
+pub common : (v : Version) (opcode : ℕ) → (commonPlaces opcode ≡ 0 → ⊥) → Common v opcode
+common v opcode some =
+    let t = rw (ne-eqb (commonPlaces opcode) 0 some) at (common-right v opcode) in
+    let rest = both-right (eqb (shapeOf v opcode % 2 ^ 35) (commonPlaces opcode)) _ t in
+    record {
+      low = low-by opcode (leb 25 opcode) refl some;
+      places = eqb-true (shapeOf v opcode % 2 ^ 35) (commonPlaces opcode) (both-left _ _ t);
+      rule = eqb-true (shapeOf v opcode / 2 ^ 38 % 4) 0 (both-left _ _ rest);
+      listed = not-true (eqb (shapeOf v opcode) 0) (both-right (eqb (shapeOf v opcode / 2 ^ 38 % 4) 0) _ rest);
+    }

@@ -2,7 +2,7 @@
 use Prim.Native.Nat.{ℕ, _+_, _*_, _/_, _%_, _^_}
 use mathlib.Core.Bool.{Bool, false, _||_}
 use mathlib.Core.List.{List, [], _∷_}
-use lib.Dec.{eqb}
+use lib.Dec.{eqb, leb}
 use lib.ListN.{length}
 use Rattle.paper.specs.Notation.{pick, setOf, holds}
 use Rattle.paper.specs.Versions.{rank}
@@ -144,12 +144,9 @@ twoSources = setOf (ADD ∷ SUB ∷ MUL ∷ DP3 ∷ DP4 ∷ MIN ∷ MAX ∷ M4x4
 abbrev pub threeSources : ℕ
 threeSources = setOf (MAD ∷ LRP ∷ [])
 
--- the shape of a row of free places, with the predicate's step where the version is a third one
-abbrev pub plainShape : Bool → List ℕ → ℕ
-plainShape third places = pick third (digits places + (2 ^ 35 * length places + 2 ^ 40)) (digits places + 2 ^ 40)
-
-abbrev pub commonBy : Bool → ℕ → ℕ
-commonBy third opcode =
-    pick (holds twoSources opcode) (plainShape third (freeDestination ∷ freeSource ∷ freeSource ∷ []))
-    (pick (holds oneSource opcode) (plainShape third (freeDestination ∷ freeSource ∷ []))
-    (pick (holds threeSources opcode) (plainShape third (freeDestination ∷ freeSource ∷ freeSource ∷ freeSource ∷ [])) 0))
+abbrev pub commonPlaces : ℕ → ℕ
+commonPlaces opcode =
+    pick (leb 25 opcode) 0
+    (pick (holds twoSources opcode) (digits (freeDestination ∷ freeSource ∷ freeSource ∷ []))
+    (pick (holds oneSource opcode) (digits (freeDestination ∷ freeSource ∷ []))
+    (pick (holds threeSources opcode) (digits (freeDestination ∷ freeSource ∷ freeSource ∷ freeSource ∷ [])) 0)))

@@ -5,8 +5,7 @@ mod rows;
 ghost use Prim.Native.Nat.{_<_};
 ghost use mathlib.Core.Path.{_≡_};
 ghost use Rattle.opcodes.specs.Shape.{shapeOf};
-ghost use Rattle.paper.specs.Notation.{pick};
-ghost use Rattle.opcodes.specs.Rows.{commonBy, decided, fromNone, fromTwoSources, fromThreeSources, fromFlow, fromDefinitions, sincosRow, shapeAt};
+ghost use Rattle.opcodes.specs.Rows.{commonPlaces, decided, fromNone, fromTwoSources, fromThreeSources, fromFlow, fromDefinitions, sincosRow, shapeAt};
 ghost use Rattle.paper.specs.Versions.{rank};
 use paper::Version;
 
@@ -234,25 +233,21 @@ const TWO_SOURCES: u32 = 0b1_1111_0000_0000_1111_0010_1100;
 
 const THREE_SOURCES: u32 = 0b100_0000_0000_0001_0000;
 
-fn by_third(third: bool, shape: u64, otherwise: u64) -> u64
-    ensures { λ r. ⌜ r ≡ pick third shape otherwise ⌝ }
+// The places of what most instructions of a shader are, found by a test or two; 0 for any other opcode.
+pub fn common_places(opcode: u32) -> u64
+    ensures { λ r. ⌜ r ≡ commonPlaces opcode ⌝ }
 {
-    if third { shape } else { otherwise }
-}
-
-// What most instructions of a shader are, found by a test or two; 0 for any other opcode.
-fn common_shape(third: bool, opcode: u32) -> u64
-    requires { ⌜ opcode < 32 ⌝ }
-    ensures { λ r. ⌜ r ≡ commonBy third opcode ⌝ }
-{
+    if LOW <= opcode {
+        return 0;
+    }
     if (TWO_SOURCES >> opcode) % 2 == 1 {
-        return by_third(third, rows::DSS_THIRD, rows::DSS_SECOND);
+        return rows::DSS_PLACES;
     }
     if (ONE_SOURCE >> opcode) % 2 == 1 {
-        return by_third(third, rows::DS_THIRD, rows::DS_SECOND);
+        return rows::DS_PLACES;
     }
     if (THREE_SOURCES >> opcode) % 2 == 1 {
-        return by_third(third, rows::DSSS_THIRD, rows::DSSS_SECOND);
+        return rows::DSSS_PLACES;
     }
     0
 }
@@ -262,12 +257,6 @@ pub fn shape_of(version: Version, opcode: u32) -> u64
     ensures { λ r. ⌜ r ≡ shapeOf version opcode ⌝ }
 {
     let rank = rank_of(version);
-    if opcode < LOW {
-        let common = common_shape(rank % 2 == 1, opcode);
-        if common != 0 {
-            return common;
-        }
-    }
     let row = row_of(opcode, rank % 2 == 1);
     shape_at(rank, row)
 }

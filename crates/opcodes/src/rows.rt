@@ -158,15 +158,9 @@ pub(crate) const DEFI_BUT_P2: u64 = DEFI + ALL_BUT_P2;
 
 pub(crate) const DEFB_BUT_P2: u64 = DEFB + ALL_BUT_P2;
 
-// The commonest shapes, with the predicate's step and without.
-pub const DS_THIRD: u64 = DS / 16;
+// The commonest places.
+pub const DS_PLACES: u64 = D + NEXT * S;
 
-pub const DS_SECOND: u64 = (DS - 2 * STEP) / 16;
+pub const DSS_PLACES: u64 = D + NEXT * (S + NEXT * S);
 
-pub const DSS_THIRD: u64 = DSS / 16;
-
-pub const DSS_SECOND: u64 = (DSS - 3 * STEP) / 16;
-
-pub const DSSS_THIRD: u64 = DSSS / 16;
-
-pub const DSSS_SECOND: u64 = (DSSS - 4 * STEP) / 16;
+pub const DSSS_PLACES: u64 = D + NEXT * (S + NEXT * (S + NEXT * S));

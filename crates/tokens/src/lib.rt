@@ -4,6 +4,7 @@ ghost use Prim.Native.Nat.{_<_};
 ghost use Rattle.paper.specs.Notation.{holds};
 ghost use Rattle.paper.specs.Versions.{named, isPixel, isThird};
 ghost use Rattle.paper.specs.OperandTokens.{typeOf, relativeSources, relativeDestinations, mayBeRelative, destinationLaid, modifierLaid, sourceLaid, laid, freeDestinationTypes, freeSourceTypes, conditionTypes, relativeTypes, typesAt, layoutThenType, tokenAt, bringsRelative};
+ghost use Rattle.tokens.specs.Plain.{plainSource, plainTemporary};
 use paper::Named;
 use paper::Reason;
 use paper::Token;
@@ -292,14 +293,43 @@ fn other_place(version: Version, place: u64, token: u32) -> Token
     layout_then_type(laid, typed)
 }
 
+// The commonest source: no modifier or negation, not relative, of a type that every version allows.
+fn plain_source(token: u32) -> bool
+    ensures { λ r. ⌜ r ≡ plainSource token ⌝ }
+{
+    let typed = type_in(VERTEX_SOURCES, token);
+    (token / 0x4000 % 4 == 0)
+        & ((token / 0x8000_0000 % 2 == 1)
+            & ((token / 0x2000 % 2 == 0) & ((token / 0x100_0000 % 16 <= 1) & typed)))
+}
+
+// The commonest destination: a temporary register with a mask, saturated or not.
+fn plain_temporary(token: u32) -> bool
+    ensures { λ r. ⌜ r ≡ plainTemporary token ⌝ }
+{
+    (token / 0x4000 % 4 == 0)
+        & ((token / 0x8000_0000 % 2 == 1)
+            & ((token / 0x2000 % 2 == 0)
+                & ((token / 0x20_0000 % 4 == 0)
+                    & ((token / 0x80_0000 % 2 == 0)
+                        & ((token / 0x100_0000 % 16 == 0)
+                            & ((token / 0x1000_0000 % 8 == 0) & (token / 0x800 % 4 == 0)))))))
+}
+
 // One token, judged at its place.
 pub fn judge_token(version: Version, place: u64, token: u32) -> Token
     ensures { λ r. ⌜ r ≡ tokenAt version place token ⌝ }
 {
     if place == FREE_SOURCE {
+        if plain_source(token) {
+            return Token::Good;
+        }
         return free_source(version, token);
     }
     if place == FREE_DESTINATION {
+        if plain_temporary(token) {
+            return Token::Good;
+        }
         return free_destination(version, token);
     }
     if place == RAW {

@@ -1,0 +1,4 @@
+pub mod Tokens
+pub mod Turn
+pub mod Verdicts
+pub mod OneAnswer

@@ -1,0 +1,36 @@
+-- Document 01, "What the build does": "it hands the check a byte range, tokens little-endian".
+use Prim.Native.Nat.{ℕ, _+_, _*_, _%_}
+use mathlib.Core.List.{List, [], _∷_}
+use lib.Dec.{eqb, ltb}
+use lib.ListN.{length, getD}
+use Rattle.paper.specs.Notation.{pick}
+use Rattle.paper.specs.Numbers.{refusal}
+use Rattle.paper.specs.Stream.{verdict}
+use Rattle.paper.specs.declared.Reason.the-variants.{Length as LENGTH, Tail as TAIL}
+use Rattle.paper.specs.declared.Verdict.{Verdict}
+use Rattle.paper.specs.declared.Verdict.the-variants.{Accepted, Refused}
+use Rattle.walk.specs.declared.State.{State}
+
+-- four bytes, the lowest first
+abbrev pub littleEndian : ℕ → ℕ → ℕ → ℕ → ℕ
+littleEndian b0 b1 b2 b3 = b0 + 0x100 * b1 + 0x10000 * b2 + 0x1000000 * b3
+
+-- fewer than four bytes at the end are no token
+unfoldable pub tokensOf : List ℕ → List ℕ
+tokensOf [] = []
+tokensOf (b0 ∷ []) = []
+tokensOf (b0 ∷ b1 ∷ []) = []
+tokensOf (b0 ∷ b1 ∷ b2 ∷ []) = []
+tokensOf (b0 ∷ b1 ∷ b2 ∷ b3 ∷ rest) = littleEndian b0 b1 b2 b3 ∷ tokensOf rest
+
+-- the token at a place
+abbrev pub tokenAt : List ℕ → ℕ → ℕ
+tokenAt bytes at = littleEndian (getD bytes (4 * at) 0) (getD bytes (4 * at + 1) 0) (getD bytes (4 * at + 2) 0) (getD bytes (4 * at + 3) 0)
+
+-- LENGTH: "bytes not a multiple of 4"
+unfoldable pub bytesVerdict : List ℕ → Verdict
+bytesVerdict bytes = pick (eqb (length bytes % 4) 0) (verdict (tokensOf bytes)) (Refused (refusal LENGTH 0))
+
+-- behind the END that finishes a stream: "TAIL: tokens after END"
+abbrev pub endsAt : State → ℕ → Verdict
+endsAt state tokens = pick (ltb (state .at) tokens) (Refused (refusal TAIL (state .at))) (Accepted (state .count))

@@ -1,0 +1,73 @@
+-- The ways in which a body ends: at a closer, or by a refusal.
+use Prim.Native.Nat.{ℕ, _+_, _≤_}
+use mathlib.Core.Path.{_≡_, refl, ap, sym, subst, _∙_}
+use mathlib.Core.Bool.{Bool}
+use mathlib.Core.List.{List}
+use native.Mathlib.Omega.{arith}
+use lib.ListN.{length}
+use Rattle.paper.specs.Blocks.{Cut, out, wrong, then}
+use Rattle.paper.specs.Stream.{cutFrom, count}
+use Rattle.paper.specs.declared.Version.{Version}
+use Rattle.paper.specs.declared.Closer.{Closer}
+use Rattle.paper.specs.declared.Refusal.{Refusal}
+use Rattle.blocks.specs.Descent.{onItem, bodyOf}
+use Rattle.blocks.proofs.Unfold.{body-out, body-wrong, body-then}
+use Rattle.checking.specs.declared.BodyEnd.the-variants.{Stopped, Broken}
+use Rattle.checking.specs.declared.ItemEnd.{ItemEnd}
+use Rattle.checking.specs.declared.ItemEnd.the-variants.{Passed, Closer as Closed, Refused}
+use Rattle.checking.specs.Ends.{itemEnd, itemAt, Begins, Onward, Stops, ItemWithin, BodyIs, ItemIs}
+
+-- a body is its first item and the rest
+body-on : (depth : ℕ) (inLoop : Bool) (a : Cut) → bodyOf depth inLoop a ≡ onItem (itemAt depth inLoop a) (λ b. bodyOf depth inLoop b)
+body-on depth inLoop (out p) = body-out depth inLoop p
+body-on depth inLoop (wrong p r) = body-wrong depth inLoop p r
+body-on depth inLoop (then c p a) = body-then depth inLoop c p a
+
+-- a body that began at `at` with m counted has come to a place, with n counted
+pub record Reached (v : Version) (s : List ℕ) (depth : ℕ) (inLoop : Bool) (at m place n : ℕ) : Type 0 where
+  pub after : at ≤ place
+  pub inside : place ≤ length s
+  pub few : n ≤ place
+  pub same : bodyOf depth inLoop (cutFrom v s place) ≡ bodyOf depth inLoop (cutFrom v s at)
+  pub counted : n + count (cutFrom v s place) ≡ m + count (cutFrom v s at)
+
+module _ {v : Version} {s : List ℕ} {depth : ℕ} {inLoop : Bool} {at m : ℕ} where
+  pub reached : Begins s depth at m → Reached v s depth inLoop at m at m
+  reached h = record { after = omega arith; inside = h .starts; few = h .few; same = refl; counted = refl }
+
+  module _ {place n : ℕ} (g : Reached v s depth inLoop at m place n) {r : ItemEnd} (h : ItemIs v s depth inLoop place n r) where
+    further : (r′ : ItemEnd) → r ≡ r′ → onItem (itemEnd v s place r′) (λ b. bodyOf depth inLoop b) ≡ bodyOf depth inLoop (cutFrom v s at)
+    further r′ e =
+        ap (λ x. onItem x (λ b. bodyOf depth inLoop b)) (ap (itemEnd v s place) (sym e) ∙ h .is)
+        ∙ sym (body-on depth inLoop (cutFrom v s place)) ∙ g .same
+
+    pub item-moves : {next k : ℕ} → r ≡ Passed next k → Onward v s place n next k
+    item-moves e = subst (ItemWithin v s place n) e (h .within)
+
+    pub reached-on : {next k : ℕ} → r ≡ Passed next k → Reached v s depth inLoop at m next k
+    reached-on {next} {k} e =
+        let o : Onward v s place n next k = item-moves e in
+        record {
+          after = omega (arith, g .after, o .after);
+          inside = o .inside;
+          few = o .few;
+          same = further (Passed next k) e;
+          counted = omega (arith, g .counted, o .counted);
+        }
+
+    pub body-stopped : {c : Closer} {next : ℕ} → r ≡ Closed c next → BodyIs v s depth inLoop at m (Stopped c place next n)
+    body-stopped {c} {next} e =
+        let o : Stops v s place n c place next n = subst (ItemWithin v s place n) e (h .within) in
+        record {
+          is = further (Closed c next) e;
+          within = record {
+            after = g .after;
+            closer = o .closer;
+            inside = o .inside;
+            few = g .few;
+            counted = o .counted ∙ g .counted;
+          };
+        }
+
+    pub body-broken : {f : Refusal} → r ≡ Refused f → BodyIs v s depth inLoop at m (Broken f)
+    body-broken {f} e = record { is = further (Refused f) e; within = tt }

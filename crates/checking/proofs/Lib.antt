@@ -1,0 +1,8 @@
+-- What the check of a stream promises, and the laws behind it.
+pub mod Within
+pub mod ItemEnds
+pub mod BodyEnds
+pub mod BlockEnds
+pub mod Whole
+pub mod OneAnswer
+pub mod AcceptedIsGrammar

@@ -1,0 +1,3 @@
+-- What the functions of the descent give back, and what an accepted stream is.
+pub mod Ends
+pub mod Accepted

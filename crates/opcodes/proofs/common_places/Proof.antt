@@ -1,0 +1,38 @@
+use borrow.Author.Tests.{eq-eqb, le-leb, lt-leb, ne-eqb}
+use Rattle.paper.specs.Notation.{holds}
+use borrow.Author.Needs.{needs}
+use Rattle.opcodes.proofs.common_places.Statement.{statement}
+use Rattle.opcodes.proofs.common_places.Tie as tie
+
+returns : tie.Need-returns
+unfolding holds
+returns c = simp (le-leb _ _ (c .if1 .taken))
+
+shr-if2 : tie.Need-shr-if2
+shr-if2 c = search needs
+
+returns-2 : tie.Need-returns-2
+unfolding holds
+returns-2 c = simp (eq-eqb _ _ (c .if2 .taken), lt-leb _ _ (c .before .if1 .left))
+
+shr-if3 : tie.Need-shr-if3
+shr-if3 c = search needs
+
+returns-3 : tie.Need-returns-3
+unfolding holds
+returns-3 c = simp (eq-eqb _ _ (c .if3 .taken), ne-eqb _ _ (c .before .if2 .left), lt-leb _ _ (c .before .before .if1 .left))
+
+shr-if4 : tie.Need-shr-if4
+shr-if4 c = search needs
+
+returns-4 : tie.Need-returns-4
+unfolding holds
+returns-4 c = simp (eq-eqb _ _ (c .if4 .taken), ne-eqb _ _ (c .before .if3 .left), ne-eqb _ _ (c .before .before .if2 .left), lt-leb _ _ (c .before .before .before .if1 .left))
+
+returns-5 : tie.Need-returns-5
+unfolding holds
+returns-5 c = simp (ne-eqb _ _ (c .if4 .left), ne-eqb _ _ (c .before .if3 .left), ne-eqb _ _ (c .before .before .if2 .left), lt-leb _ _ (c .before .before .before .if1 .left))
+
+pub common-places-spec : {M : Type 1} → statement M
+common-places-spec =
+    tie.close (tie.spec returns shr-if2 returns-2 shr-if3 returns-3 shr-if4 returns-4 returns-5)

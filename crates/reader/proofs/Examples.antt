@@ -1,0 +1,111 @@
+-- Instructions, read by the definitions.
+use mathlib.Core.Path.{_≡_, refl}
+use mathlib.Core.List.{List, [], _∷_}
+use Prim.Native.Nat.{ℕ}
+use Rattle.paper.specs.Notation.{holds}
+use Rattle.paper.specs.OpcodeTable.{rows, entryOf}
+use Rattle.paper.specs.OperandTokens.{typedPlaces, tokenAt}
+use Rattle.paper.specs.Dcl.{declaration}
+use Rattle.paper.specs.Blocks.{classOf}
+use Rattle.paper.specs.Instruction.{head, operand, operands, judged}
+use Rattle.records.specs.declared.Operand.{Operand}
+use Rattle.records.specs.declared.Record.{Record}
+use Rattle.records.specs.Record.{noOperand, rawOperand, noRecord, endRecord, commentRecord, operandOf, operandAt, widthAt, inOrder, predicateOr, arrayOf, recordOf}
+use Rattle.reader.specs.Reading.{readingAt, reading, Told, toldReading}
+
+tells : ℕ → List ℕ → ℕ → Told
+tells version tokens at = toldReading (reading version tokens at)
+
+yes : ℕ → Record → Told
+yes next instruction = record { number = 0; position = 0; next = next; instruction = instruction }
+
+no : ℕ → ℕ → Told
+no number position = record { number = number; position = position; next = 0; instruction = noRecord }
+
+-- a register with a mask, with a swizzle, and with a swizzle and a relative register
+destination : ℕ → ℕ → ℕ → Operand
+destination kind number mask =
+    record {
+      number = number;
+      kind = kind;
+      mask = mask;
+      swizzle = 0;
+      modifier = 0;
+      result = 0;
+      relative = 0;
+      «relative_number» = 0;
+      «relative_kind» = 0;
+      «relative_swizzle» = 0;
+      raw = 0;
+    }
+
+source : ℕ → ℕ → ℕ → Operand
+source kind number swizzle =
+    record {
+      number = number;
+      kind = kind;
+      mask = 0;
+      swizzle = swizzle;
+      modifier = 0;
+      result = 0;
+      relative = 0;
+      «relative_number» = 0;
+      «relative_kind» = 0;
+      «relative_swizzle» = 0;
+      raw = 0;
+    }
+
+indexed : ℕ → ℕ → ℕ → ℕ → ℕ → ℕ → Operand
+indexed kind number swizzle by-kind by-number by-swizzle =
+    record {
+      number = number;
+      kind = kind;
+      mask = 0;
+      swizzle = swizzle;
+      modifier = 0;
+      result = 0;
+      relative = 1;
+      «relative_number» = by-number;
+      «relative_kind» = by-kind;
+      «relative_swizzle» = by-swizzle;
+      raw = 0;
+    }
+
+instruction : ℕ → ℕ → List Operand → Record
+instruction opcode predicated operands =
+    record { opcode = opcode; controls = 0; predicated = predicated; length = 0; operands = operands }
+
+-- mov r0, c0
+mov : List ℕ
+mov = 0xFFFE0200 ∷ 0x02000001 ∷ 0x800F0000 ∷ 0xA0E40000 ∷ 0x0000FFFF ∷ []
+
+mov-read : tells 0xFFFE0200 mov 1 ≡
+    yes 4 (instruction 1 0 (destination 0 0 0xF ∷ source 2 0 0xE4 ∷ noOperand ∷ noOperand ∷ noOperand ∷ noOperand ∷ []))
+unfolding tells yes destination source instruction mov holds rows entryOf typedPlaces tokenAt declaration classOf head operand operands judged operandOf operandAt widthAt inOrder predicateOr arrayOf recordOf readingAt reading
+mov-read = refl
+
+-- (p0) mov r1, c2[a0.x]: the predicate is last among the tokens and in the record, and the index stands with its source
+predicated-read : tells 0xFFFE0300 (0x14000001 ∷ 0x800F0001 ∷ 0xA0E42002 ∷ 0xB0000000 ∷ 0xB0E41000 ∷ []) 0 ≡
+    yes 5 (instruction 1 1 (destination 0 1 0xF ∷ indexed 2 2 0xE4 3 0 0 ∷ noOperand ∷ noOperand ∷ noOperand ∷ source 19 0 0xE4 ∷ []))
+unfolding tells yes destination source indexed instruction holds rows entryOf typedPlaces tokenAt declaration classOf head operand operands judged operandOf operandAt widthAt inOrder predicateOr arrayOf recordOf readingAt reading
+predicated-read = refl
+
+-- dcl_position v0
+dcl-read : tells 0xFFFE0200 (0x0200001F ∷ 0x80000000 ∷ 0x900F0000 ∷ []) 0 ≡
+    yes 3 (instruction 31 0 (rawOperand 0x80000000 ∷ destination 1 0 0xF ∷ noOperand ∷ noOperand ∷ noOperand ∷ noOperand ∷ []))
+unfolding tells yes destination instruction holds rows entryOf typedPlaces tokenAt declaration classOf head operand operands judged operandOf operandAt widthAt inOrder predicateOr arrayOf recordOf readingAt reading
+dcl-read = refl
+
+comment-and-end-read :
+    tells 0xFFFE0200 (0x0002FFFE ∷ 7 ∷ 8 ∷ 0x0000FFFF ∷ []) 0 ∷ tells 0xFFFE0200 (0x0002FFFE ∷ 7 ∷ 8 ∷ 0x0000FFFF ∷ []) 3 ∷ [] ≡
+    yes 3 (commentRecord 2) ∷ yes 4 endRecord ∷ []
+unfolding tells yes head judged recordOf readingAt reading
+comment-and-end-read = refl
+
+-- another version; a place at the end and one past it; a refusal inside an instruction
+refused-read :
+    tells 0xFFFE0201 mov 1 ∷ tells 0xFFFE0200 mov 5 ∷ tells 0xFFFE0200 mov 9 ∷ tells 0xFFFE0200 [] 0 ∷
+    tells 0xFFFE0200 (0 ∷ 0x02000001 ∷ 0x800F4000 ∷ 0xA0E40000 ∷ []) 1 ∷ [] ≡
+    no 2 0 ∷ no 5 5 ∷ no 5 5 ∷ no 5 0 ∷ no 7 2 ∷ []
+unfolding tells no mov holds rows entryOf typedPlaces tokenAt declaration classOf head operand operands judged recordOf readingAt reading
+refused-read = refl

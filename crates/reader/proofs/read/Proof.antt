@@ -1,0 +1,54 @@
+use mathlib.Core.Path.{sym, _∙_}
+use borrow.Author.Tests.{le-leb, lt-leb}
+use Rattle.reader.specs.Reading.{reading}
+use borrow.Author.Needs.{needs}
+use Rattle.reader.proofs.read.Statement.{statement}
+use Rattle.reader.proofs.read.Tie as tie
+
+refused-at-requires : tie.Need-refused-at-requires
+refused-at-requires c κs = search needs
+
+returns : tie.Need-returns
+unfolding reading
+returns c = rw (lt-leb _ _ (c .before .if1 .taken)) (c .refused-at .ensures)
+
+version-of-requires : tie.Need-version-of-requires
+version-of-requires c κs = search needs
+
+enum-known-named : tie.Need-enum-known-named
+enum-known-named c = search needs
+
+read-at-requires : tie.Need-read-at-requires
+read-at-requires c κs = search needs
+
+enum-told : tie.Need-enum-told
+enum-told c = search needs
+
+refused-at-requires-2 : tie.Need-refused-at-requires-2
+refused-at-requires-2 c κs = search needs
+
+returns-2 : tie.Need-returns-2
+unfolding reading
+returns-2 c =
+    rw (le-leb _ _ (c .before .before .before .before .before .if1 .left), sym (c .before .before .before .before .version-of .ensures) ∙ c .before .before .named .given .1)
+    (c .read-at .ensures)
+
+returns-3 : tie.Need-returns-3
+unfolding reading
+returns-3 c =
+    rw (le-leb _ _ (c .before .before .before .before .if1 .left), sym (c .before .before .before .version-of .ensures) ∙ c .before .enum-told .given .1)
+    (c .refused-at2 .ensures)
+
+pub read-spec : {M : Type 1} → statement M
+read-spec =
+    tie.close
+    (tie.spec
+    refused-at-requires
+    returns
+    version-of-requires
+    enum-known-named
+    read-at-requires
+    enum-told
+    refused-at-requires-2
+    returns-2
+    returns-3)

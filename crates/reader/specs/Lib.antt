@@ -1,0 +1,2 @@
+-- Document 01, "Records": the reader.
+pub mod Reading

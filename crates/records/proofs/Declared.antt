@@ -1,0 +1,89 @@
+-- A good declaration: its tokens are U and a destination that has no relative token.
+use mathlib.Core.Path.{_≡_, refl, sym, _∙_}
+use mathlib.Core.Bool.{Bool, true, false, _&&_, _||_}
+use mathlib.Core.List.{List, [], _∷_}
+use Prim.Native.Nat.{ℕ}
+use native.Mathlib.Omega.{arith}
+use lib.Dec.{eqb}
+use borrow.Author.Tests.{eqb-true}
+use Rattle.paper.specs.Notation.{pick, bit, bits}
+use Rattle.paper.specs.OperandTokens.{typeOf, raw, declared, bringsRelative, bothLaid, relativeLaid, destinationLaid, leftOver}
+use Rattle.paper.specs.Versions.{isPixel}
+use Rattle.paper.specs.Dcl.{declaration, declaredAt, faceLaid, isDeclared, usageLaid, onDeclared, refusedAs}
+use Rattle.paper.specs.declared.Version.{Version}
+use Rattle.paper.specs.declared.Reason.the-variants.{Operand as OPERAND}
+use Rattle.paper.specs.declared.Token.{Token}
+use Rattle.paper.specs.declared.Token.the-variants.{Good, Bad}
+use Rattle.paper.specs.declared.Operands.the-variants.{Fit}
+use Rattle.paper.proofs.Below.{both-left, both-right}
+use Rattle.records.specs.Record.{widthAt, declaredPlaces}
+use Rattle.records.proofs.Passed.{Passed, AllPassed, none, step, laid-and-typed}
+
+-- a declared destination has no relative token
+pub or-false : (a : Bool) → a || false ≡ true → a ≡ true
+or-false true h = refl
+or-false false h = h
+
+pub declared-laid : (v : Version) (d : ℕ) → declaredAt v d ≡ Good → destinationLaid v declared d ≡ true
+declared-laid v d g =
+    both-left (destinationLaid v declared d) (faceLaid v d)
+    (laid-and-typed (destinationLaid v declared d && faceLaid v d) (isDeclared v (typeOf d)) g)
+
+pub declared-plain : (v : Version) (d : ℕ) → destinationLaid v declared d ≡ true → bit 13 d ≡ 0
+declared-plain v d l =
+    let pixel = both-right (bothLaid d) _ l in
+    let zeros = both-right (eqb (bits 22 21 d) 0 || isPixel v) _ pixel in
+    let fixed = both-right (eqb (bit 23 d) 0) _ zeros in
+    eqb-true (bit 13 d) 0 (or-false (eqb (bit 13 d) 0) (both-right (eqb (bits 27 24 d) 0) (relativeLaid v declared d) fixed))
+
+-- what a good declaration is
+pub record Declared (v : Version) (u d : ℕ) (rest : List ℕ) : Type 0 where
+  pub destination : declaredAt v d ≡ Good
+  pub usage : usageLaid v (typeOf d) u ≡ true
+  pub no-more : rest ≡ []
+
+module _ (v : Version) (u d : ℕ) (rest : List ℕ) where
+  left-good : (tokens : List ℕ) → leftOver tokens ≡ Fit → tokens ≡ []
+  left-good [] e = refl
+  left-good (t ∷ ts) e = let z : _≡_ {A = ℕ} 0 1 = cc in absurd (omega arith)
+
+  usage-good : (laid : Bool) → declaredAt v d ≡ Good → usageLaid v (typeOf d) u ≡ laid → pick laid (leftOver rest) (refusedAs OPERAND 1) ≡ Fit → Declared v u d rest
+  usage-good true g l e = record { destination = g; usage = l; no-more = left-good rest e }
+  usage-good false g l e = let z : _≡_ {A = ℕ} 0 1 = cc in absurd (omega arith)
+
+  token-good : (t : Token) → declaredAt v d ≡ t → onDeclared t (pick (usageLaid v (typeOf d) u) (leftOver rest) (refusedAs OPERAND 1)) ≡ Fit → Declared v u d rest
+  token-good Good g e = usage-good (usageLaid v (typeOf d) u) g refl e
+  token-good (Bad reason) g e = let z : _≡_ {A = ℕ} 0 1 = cc in absurd (omega arith)
+
+  pub declared-good : declaration v (u ∷ (d ∷ rest)) ≡ Fit → Declared v u d rest
+  unfolding declaration
+  declared-good e = token-good (declaredAt v d) refl e
+
+never : false ≡ true → ⊥
+never e = let z : _≡_ {A = ℕ} 0 1 = cc in omega arith
+
+-- U and the destination of a good declaration
+module _ (v : Version) (u d : ℕ) (l : destinationLaid v declared d ≡ true) where
+  plain : bringsRelative declared d ≡ false
+  plain = rw (declared-plain v d l)
+
+  usage-passed : Passed v raw (u ∷ (d ∷ [])) 1
+  unfolding widthAt
+  usage-passed =
+      record { width = refl; there = omega arith; first-laid = λ t. absurd (never (sym t)); second-laid = λ t. absurd (never t) }
+
+  destination-passed : Passed v declared (d ∷ []) 1
+  unfolding widthAt
+  destination-passed =
+      record { width = rw plain; there = omega arith; first-laid = λ _. l; second-laid = λ t. absurd (never (sym plain ∙ t)) }
+
+  both-passed : AllPassed v declaredPlaces (u ∷ (d ∷ []))
+  both-passed = step usage-passed (step destination-passed none)
+
+pub declared-passed : (v : Version) (behind : List ℕ) → declaration v behind ≡ Fit → AllPassed v declaredPlaces behind
+unfolding declaration
+declared-passed v [] e = let z : _≡_ {A = ℕ} 0 1 = cc in absurd (omega arith)
+declared-passed v (u ∷ []) e = let z : _≡_ {A = ℕ} 0 1 = cc in absurd (omega arith)
+declared-passed v (u ∷ (d ∷ rest)) e =
+    let g = declared-good v u d rest e in
+    rw (g .no-more) (both-passed v u d (declared-laid v d (g .destination)))

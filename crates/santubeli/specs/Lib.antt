@@ -1,0 +1,2 @@
+-- What a C caller is given back.
+pub mod Entries

@@ -1,0 +1,2 @@
+-- The commonest tokens, known by one test.
+pub mod Plain

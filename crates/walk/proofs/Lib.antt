@@ -1,0 +1,3 @@
+pub mod OpenBlocks
+pub mod Bounds
+pub mod OnStream

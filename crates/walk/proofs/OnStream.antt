@@ -1,0 +1,270 @@
+-- The step at a position of a stream is the walk's.
+use Prim.Native.Nat.{ℕ, suc, _+_, _-_, _^_, _≤_, _<_}
+use mathlib.Core.Path.{_≡_, refl, ap, sym, _∙_}
+use mathlib.Core.Bool.{Bool, true, false}
+use mathlib.Core.List.{List, []}
+use native.Mathlib.Nat.{mod-eq-of-lt, add-zero}
+use native.Mathlib.Omega.{arith}
+use lib.Dec.{leb, leb·zero}
+use lib.ListN.{length, take, drop, getD, length-drop}
+use lib.Seq.{drop-drop, getD-drop}
+use Rattle.paper.specs.Notation.{pick}
+use Rattle.paper.specs.Numbers.{refusal}
+use Rattle.paper.specs.Instruction.{judged}
+use Rattle.paper.specs.Blocks.{Cut, wrong, then, stands}
+use Rattle.paper.specs.Walk.{Kind, opened, step, go, bad, finish, atEnd, walk}
+use Rattle.paper.specs.Walk.{Next as Said}
+use Rattle.paper.specs.Stream.{cutOne, cutFrom, counts, count, walked}
+use Rattle.paper.specs.declared.Version.{Version}
+use Rattle.paper.specs.declared.Class.{Class}
+use Rattle.paper.specs.declared.Class.the-variants.{One, Opens, Closes}
+use Rattle.paper.specs.declared.Single.the-variants.{Comment, Plain, Break, Label, Return}
+use Rattle.paper.specs.declared.Closer.the-variants.{Else, EndIf, EndLoop, EndRep, End}
+use Rattle.paper.specs.declared.Reason.{Reason}
+use Rattle.paper.specs.declared.Reason.the-variants.{RunOut as RUN-OUT, Tail as TAIL}
+use Rattle.paper.specs.declared.Refusal.{Refusal}
+use Rattle.paper.specs.declared.Judged.{Judged}
+use Rattle.paper.specs.declared.Judged.the-variants.{Good, Refused as unfit}
+use Rattle.paper.specs.declared.Verdict.the-variants.{Accepted, Refused as no-verdict}
+use Rattle.blocks.specs.Reach.{here, past}
+use Rattle.blocks.proofs.Cutting.{cut-none, cut-at}
+use Rattle.blocks.proofs.Reach.{reached, reaches-on}
+use Rattle.instruction.specs.declared.Head.{Head}
+use Rattle.instruction.specs.declared.Head.the-variants.{Refused as broken, End as end, Comment as comment, Declaration as declared, Operation as operation}
+use Rattle.instruction.specs.Encoded.{judgedBy}
+use Rattle.instruction.proofs.Heads.{claimed, judged-some}
+use Rattle.walk.specs.declared.State.{State}
+use Rattle.walk.specs.declared.Stepped.the-variants.{On, Done, Refused}
+use Rattle.walk.specs.Kinds.{numberOf, numbered, nextBy}
+use Rattle.walk.specs.Steps.{wrapped, behindOf, onNextBy, onJudged, looksAt, stepBy}
+use Rattle.walk.specs.Stands.{Stands, Ends, headAt, stepAt}
+use Rattle.walk.proofs.OpenBlocks.{next-is, step-few}
+use Rattle.walk.proofs.Bounds.{judged-near, judged-in}
+
+-- what an instruction adds to a count
+
+counts-add : (c : Class) (a n : ℕ) → a + counts c n ≡ counts c a + n
+counts-add (One Comment) a n = refl
+counts-add (One Plain) a n = omega arith
+counts-add (One Break) a n = omega arith
+counts-add (One Label) a n = omega arith
+counts-add (One Return) a n = omega arith
+counts-add (Opens o) a n = omega arith
+counts-add (Closes Else) a n = omega arith
+counts-add (Closes EndIf) a n = omega arith
+counts-add (Closes EndLoop) a n = omega arith
+counts-add (Closes EndRep) a n = omega arith
+counts-add (Closes End) a n = refl
+
+counts-most : (c : Class) (n : ℕ) → counts c n ≤ suc n
+counts-most (One Comment) n = omega arith
+counts-most (One Plain) n = omega arith
+counts-most (One Break) n = omega arith
+counts-most (One Label) n = omega arith
+counts-most (One Return) n = omega arith
+counts-most (Opens o) n = omega arith
+counts-most (Closes Else) n = omega arith
+counts-most (Closes EndIf) n = omega arith
+counts-most (Closes EndLoop) n = omega arith
+counts-most (Closes EndRep) n = omega arith
+counts-most (Closes End) n = omega arith
+
+-- the step judges the instruction at its position
+
+module _ (v : Version) (state : State) (first : ℕ) (fits : state .at < 2 ^ 64) where
+  here-same : wrapped (state .at + 0) ≡ state .at
+  here-same = rw (add-zero (state .at)) (mod-eq-of-lt fits)
+
+  run-out : (b : Bool) (x : Judged) →
+      pick b (onJudged x state) (Refused (refusal RUN-OUT (state .at))) ≡ onJudged (pick b x (unfit (refusal RUN-OUT 0))) state
+  run-out true x = refl
+  run-out false x = ap (λ (p : ℕ). Refused (refusal RUN-OUT p)) (sym here-same)
+
+  looked : (b : Bool) (h : Head) (size : ℕ) (rest : List ℕ) →
+      pick b (onJudged (judgedBy v h first (take (pick b size 0) rest)) state) (Refused (refusal RUN-OUT (state .at))) ≡
+      onJudged (pick b (judgedBy v h first (take size rest)) (unfit (refusal RUN-OUT 0))) state
+  looked true h size rest = refl
+  looked false h size rest = run-out false (judgedBy v h first (take size rest))
+
+  step-claimed : (h : Head) (rest : List ℕ) →
+      stepBy v state h first (take (looksAt h (length rest)) rest) (length rest) ≡ onJudged (claimed v h first rest) state
+  unfolding stepBy
+  step-claimed (broken reason) rest = rw (leb·zero (length rest))
+  step-claimed end rest = rw (leb·zero (length rest))
+  step-claimed (comment n) rest = run-out (leb n (length rest)) (judgedBy v (comment n) first [])
+  step-claimed (declared size) rest = looked (leb size (length rest)) (declared size) size rest
+  step-claimed (operation ps size) rest = looked (leb size (length rest)) (operation ps size) size rest
+
+step-judged : (v : Version) (s : List ℕ) (state : State) → state .at < length s → length s < 2 ^ 64 →
+    stepAt v s state ≡ onJudged (judged v (drop (state .at) s)) state
+unfolding stepAt
+step-judged v s state h fits =
+    let p = state .at in
+    let some : (length (drop p s) ≡ 0 → ⊥) = λ e. omega (arith, length-drop p s) in
+    let token : getD (drop p s) 0 0 ≡ getD s p 0 = getD-drop p s 0 0 ∙ ap (λ (n : ℕ). getD s n 0) (add-zero p) in
+    let rest : drop 1 (drop p s) ≡ drop (p + 1) s = drop-drop 1 p s in
+    let whole : judged v (drop p s) ≡ claimed v (headAt v s p) (getD s p 0) (drop (p + 1) s) =
+    rw (token, rest) at (judged-some v (drop p s) some) in
+    rw (whole, ← (length-drop (p + 1) s)) (step-claimed v state (getD s p 0) (omega arith) (headAt v s p) (drop (p + 1) s))
+
+-- the walk stands behind the version at first
+
+pub stands-first : (v : Version) (s : List ℕ) → 1 ≤ length s → Stands v s (record { at = 1; count = 0; kinds = 0 })
+unfolding numberOf
+stands-first v s h =
+    record { opened = []; numbered = refl; few = omega arith; within = h; counted = omega arith; reaches = here; counts = omega arith }
+
+-- the verdict is that of what is left
+module _ (v : Version) (s : List ℕ) (state : State) (h : Stands v s state) where
+  pub stands-verdict : walked v s ≡ walk (count (cutFrom v s 1)) (cutFrom v s (state .at)) (h .opened)
+  unfolding walked
+  stands-verdict = reached (h .reaches) (count (cutFrom v s 1))
+
+  -- "no token where an instruction must start" is RUN-OUT at the token count
+  pub stands-out : length s ≤ state .at → walked v s ≡ no-verdict (refusal RUN-OUT (length s))
+  unfolding walk
+  stands-out le =
+      let at : state .at ≡ length s = omega (arith, h .within) in
+      stands-verdict ∙ rw (cut-none v s (state .at) le, at)
+
+-- where it goes on
+
+abbrev stateAt : ℕ → ℕ → ℕ → State
+stateAt at counted kinds = record { at = at; count = counted; kinds = kinds }
+
+module _ (v : Version) (s : List ℕ) (state : State) (h : Stands v s state) (lt : state .at < length s) (fits : length s < 2 ^ 64) where
+  -- a good instruction and the state behind it
+  module _ (size : ℕ) (class : Class) (e : judged v (drop (state .at) s) ≡ Good size class) where
+    cut-good : cutFrom v s (state .at) ≡ then class (state .at) (cutFrom v s (state .at + suc size))
+    cut-good = cut-at v s (state .at) lt ∙ rw e
+
+    size-in : size < length s - state .at
+    size-in =
+        let some : 0 < length (drop (state .at) s) = omega (arith, length-drop (state .at) s) in
+        omega (arith, rw e at (judged-in v (drop (state .at) s) some), length-drop (state .at) s)
+
+    at-behind : wrapped (wrapped (state .at + size) + 1) ≡ state .at + suc size
+    at-behind =
+        let inner : wrapped (state .at + size) ≡ state .at + size = mod-eq-of-lt (omega (arith, size-in)) in
+        let sum : state .at + size + 1 ≡ state .at + suc size = omega arith in
+        rw (inner, sum) (mod-eq-of-lt (omega (arith, size-in)))
+
+    count-behind : wrapped (counts class (state .count)) ≡ counts class (state .count)
+    count-behind = mod-eq-of-lt (omega (arith, counts-most class (state .count), h .counted))
+
+    behind-is : (kinds : ℕ) → behindOf state size class kinds ≡ stateAt (state .at + suc size) (counts class (state .count)) kinds
+    behind-is kinds = rw (at-behind, count-behind)
+
+    counts-behind : count (cutFrom v s 1) ≡ counts class (state .count) + count (cutFrom v s (state .at + suc size))
+    unfolding count
+    counts-behind =
+        h .counts
+        ∙ ap (λ (a : Cut). state .count + count a) cut-good
+        ∙ counts-add class (state .count) (count (cutFrom v s (state .at + suc size)))
+
+    stands-behind : (ls : List Kind) → step (h .opened) class ≡ go ls →
+        Stands v s (stateAt (state .at + suc size) (counts class (state .count)) (numberOf ls))
+    stands-behind ls f =
+        record {
+          opened = ls;
+          numbered = refl;
+          few = step-few (h .opened) ls class (h .few) f;
+          within = omega (arith, size-in);
+          counted = omega (arith, counts-most class (state .count), h .counted);
+          reaches = reaches-on (h .reaches) (rw cut-good (past f here));
+          counts = counts-behind;
+        }
+
+    ends-behind : (kinds : ℕ) → step (h .opened) class ≡ finish → Ends v s (stateAt (state .at + suc size) (counts class (state .count)) kinds)
+    unfolding walk
+    ends-behind kinds f =
+        record { within = omega (arith, size-in); verdict = stands-verdict v s state h ∙ rw (cut-good, f); counts = counts-behind }
+
+    refused-here : (reason : Reason) → step (h .opened) class ≡ bad reason → walked v s ≡ no-verdict (refusal reason (state .at))
+    unfolding walk
+    refused-here reason f = stands-verdict v s state h ∙ rw (cut-good, f)
+
+    next-said : nextBy (state .kinds) class ≡ numbered (step (h .opened) class)
+    next-said = rw (h .numbered) (next-is (h .opened) class)
+
+    on-next : (x : Said) → step (h .opened) class ≡ x → (next : State) → onNextBy (numbered x) state size class ≡ On next →
+        Stands v s next × (state .at < next .at)
+    on-next (go ls) f next g =
+        let same : stateAt (state .at + suc size) (counts class (state .count)) (numberOf ls) ≡ next = sym (behind-is (numberOf ls)) ∙ cc in
+        let moved : state .at + suc size ≡ next .at = ap (λ (x : State). x .at) same in
+        (rw same at (stands-behind ls f), omega arith)
+    on-next (bad reason) f next g = let z : _≡_ {A = ℕ} 0 1 = cc in absurd (omega arith)
+    on-next finish f next g = let z : _≡_ {A = ℕ} 0 1 = cc in absurd (omega arith)
+
+    done-next : (x : Said) → step (h .opened) class ≡ x → (next : State) → onNextBy (numbered x) state size class ≡ Done next → Ends v s next
+    done-next (go ls) f next g = let z : _≡_ {A = ℕ} 0 1 = cc in absurd (omega arith)
+    done-next (bad reason) f next g = let z : _≡_ {A = ℕ} 0 1 = cc in absurd (omega arith)
+    done-next finish f next g =
+        let same : stateAt (state .at + suc size) (counts class (state .count)) (state .kinds) ≡ next = sym (behind-is (state .kinds)) ∙ cc in
+        rw same at (ends-behind (state .kinds) f)
+
+    refused-next : (x : Said) → step (h .opened) class ≡ x → (r : Refusal) → onNextBy (numbered x) state size class ≡ Refused r →
+        walked v s ≡ no-verdict r
+    refused-next (go ls) f r g = let z : _≡_ {A = ℕ} 0 1 = cc in absurd (omega arith)
+    refused-next (bad reason) f r g = let same : refusal reason (state .at) ≡ r = cc in refused-here reason f ∙ ap no-verdict same
+    refused-next finish f r g = let z : _≡_ {A = ℕ} 0 1 = cc in absurd (omega arith)
+
+  -- a refused instruction
+  refused-unfit : (q : Refusal) → judged v (drop (state .at) s) ≡ unfit q → (r : Refusal) → onJudged (unfit q) state ≡ Refused r →
+      walked v s ≡ no-verdict r
+  unfolding walk
+  refused-unfit q e r g =
+      let some : 0 < length (drop (state .at) s) = omega (arith, length-drop (state .at) s) in
+      let near : q .position < length (drop (state .at) s) = rw e at (judged-near v (drop (state .at) s) some) in
+      let at : wrapped (state .at + q .position) ≡ state .at + q .position = mod-eq-of-lt (omega (arith, near, length-drop (state .at) s)) in
+      let same : refusal (q .reason) (wrapped (state .at + q .position)) ≡ r = cc in
+      let cut : cutFrom v s (state .at) ≡ wrong (state .at) (refusal (q .reason) (state .at + q .position)) = cut-at v s (state .at) lt ∙ rw e in
+      stands-verdict v s state h ∙ rw cut (ap no-verdict (rw at at same))
+
+  on-judged : (x : Judged) → judged v (drop (state .at) s) ≡ x → (next : State) → onJudged x state ≡ On next →
+      Stands v s next × (state .at < next .at)
+  on-judged (Good size class) e next g =
+      on-next size class e (step (h .opened) class) refl next (rw (next-said size class e) at g)
+  on-judged (unfit q) e next g = let z : _≡_ {A = ℕ} 0 1 = cc in absurd (omega arith)
+
+  done-judged : (x : Judged) → judged v (drop (state .at) s) ≡ x → (next : State) → onJudged x state ≡ Done next → Ends v s next
+  done-judged (Good size class) e next g =
+      done-next size class e (step (h .opened) class) refl next (rw (next-said size class e) at g)
+  done-judged (unfit q) e next g = let z : _≡_ {A = ℕ} 0 1 = cc in absurd (omega arith)
+
+  refused-judged : (x : Judged) → judged v (drop (state .at) s) ≡ x → (r : Refusal) → onJudged x state ≡ Refused r → walked v s ≡ no-verdict r
+  refused-judged (Good size class) e r g =
+      refused-next size class e (step (h .opened) class) refl r (rw (next-said size class e) at g)
+  refused-judged (unfit q) e r g = refused-unfit q e r g
+
+  judgement : stepAt v s state ≡ onJudged (judged v (drop (state .at) s)) state
+  judgement = step-judged v s state lt fits
+
+  -- it goes on: the walk stands further on
+  pub step-on : (next : State) → stepAt v s state ≡ On next → Stands v s next × (state .at < next .at)
+  step-on next e = on-judged (judged v (drop (state .at) s)) refl next (sym judgement ∙ e)
+
+  -- it is at its end
+  pub step-done : (next : State) → stepAt v s state ≡ Done next → Ends v s next
+  step-done next e = done-judged (judged v (drop (state .at) s)) refl next (sym judgement ∙ e)
+
+  -- it is refused, and so is the stream
+  pub step-refused : (r : Refusal) → stepAt v s state ≡ Refused r → walked v s ≡ no-verdict r
+  step-refused r e = refused-judged (judged v (drop (state .at) s)) refl r (sym judgement ∙ e)
+
+-- behind the END that finishes the stream: nothing follows, or TAIL
+
+module _ (v : Version) (s : List ℕ) (state : State) (h : Ends v s state) where
+  pub ends-accepted : length s ≤ state .at → walked v s ≡ Accepted (state .count)
+  unfolding count
+  ends-accepted le =
+      let none = cut-none v s (state .at) le in
+      let total : count (cutFrom v s 1) ≡ state .count = rw (none, add-zero (state .count)) at (h .counts) in
+      h .verdict ∙ rw none (ap Accepted total)
+
+  tail-cut : (x : Judged) → atEnd (count (cutFrom v s 1)) (cutOne x (state .at) (λ n. cutFrom v s (state .at + n))) ≡ no-verdict (refusal TAIL (state .at))
+  tail-cut (Good size class) = refl
+  tail-cut (unfit r) = refl
+
+  pub ends-tail : state .at < length s → walked v s ≡ no-verdict (refusal TAIL (state .at))
+  ends-tail lt = h .verdict ∙ rw (cut-at v s (state .at) lt) (tail-cut (judged v (drop (state .at) s)))

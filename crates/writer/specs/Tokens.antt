@@ -1,0 +1,82 @@
+-- Document 01, "Records": the tokens that a record stands for. "A comment's record holds its length; the writer is lent the body."
+use Prim.Native.Nat.{ℕ, _+_, _*_, _/_, _%_, _^_, _<_}
+use mathlib.Core.List.{List, [], _∷_, _++_}
+use lib.Dec.{eqb}
+use lib.ListN.{length, take, drop, getD}
+use Rattle.paper.specs.Notation.{pick}
+use Rattle.paper.specs.OpcodeTable.{Letter, Entry, absent, listed, entryOf, DCL}
+use Rattle.paper.specs.InstructionToken.{commentOpcode, endOpcode, endToken}
+use Rattle.paper.specs.OperandTokens.{raw, predicate, placesFrom, withPredicate}
+use Rattle.paper.specs.Instruction.{Head, broken, end, comment, dcl, operation, head}
+use Rattle.paper.specs.declared.Version.{Version}
+use Rattle.records.specs.declared.Operand.{Operand}
+use Rattle.records.specs.declared.Record.{Record}
+use Rattle.records.specs.Record.{noOperand, declaredPlaces}
+
+-- each token is a number of 32 bits
+unfoldable pub Words : List ℕ → Type 0
+Words tokens = (k : ℕ) → getD tokens k 0 < 2 ^ 32
+
+-- a token of these fields, each in its bits; bits 15:14 are zero and bit 31 is one
+abbrev pub tokenOf : ℕ → ℕ → ℕ → ℕ → ℕ
+tokenOf number kind relative high =
+    number + (2 ^ 11 * (kind / 8) + (2 ^ 13 * relative + (2 ^ 16 * high + (2 ^ 28 * (kind % 8) + 2 ^ 31))))
+
+-- bits 27:16: a destination has its mask and its result modifier there, a source its swizzle and its modifier, and the other's are zero
+abbrev pub middleOf : Operand → ℕ
+middleOf operand = operand .mask + operand .swizzle + (2 ^ 4 * operand .result + 2 ^ 8 * operand .modifier)
+
+unfoldable pub operandToken : Operand → ℕ
+operandToken operand = tokenOf (operand .number) (operand .kind) (operand .relative) (middleOf operand)
+
+unfoldable pub relativeToken : Operand → ℕ
+relativeToken operand = tokenOf (operand .«relative_number») (operand .«relative_kind») 0 (operand .«relative_swizzle»)
+
+unfoldable pub operandTokens : ℕ → Operand → List ℕ
+operandTokens place operand =
+    pick (eqb place raw) (operand .raw ∷ [])
+    (operandToken operand ∷ pick (eqb (operand .relative) 1) (relativeToken operand ∷ []) [])
+
+-- the operands of a row of places: those in token order one after the other, and the predicate where the row has it
+unfoldable pub rowTokens : List ℕ → List Operand → Operand → List ℕ
+rowTokens [] inOrder predicated = []
+rowTokens (place ∷ places) inOrder predicated =
+    pick (eqb place predicate) (operandTokens place predicated ++ rowTokens places inOrder predicated)
+    (operandTokens place (getD inOrder 0 noOperand) ++ rowTokens places (drop 1 inOrder) predicated)
+
+-- "Bits 27:24 are the size without this token." "Bit 28 says predicated"
+abbrev pub instructionToken : Record → ℕ → ℕ
+instructionToken r size = r .opcode + (2 ^ 16 * r .controls + (2 ^ 24 * size + 2 ^ 28 * r .predicated))
+
+abbrev pub commentToken : ℕ → ℕ
+commentToken n = commentOpcode + 2 ^ 16 * n
+
+abbrev pub rowOf : Record → List Letter → List ℕ
+rowOf r letters =
+    pick (eqb (r .opcode) DCL) declaredPlaces (withPredicate (eqb (r .predicated) 1) (placesFrom (r .opcode) 0 letters))
+
+abbrev pub behindOf : Record → List ℕ → List ℕ
+behindOf r places = rowTokens places (r .operands) (getD (r .operands) 5 noOperand)
+
+abbrev pub listedTokens : Record → Entry → List ℕ
+listedTokens r absent = []
+listedTokens r (listed letters) = instructionToken r (length (behindOf r (rowOf r letters))) ∷ behindOf r (rowOf r letters)
+
+-- the tokens of a record, with a comment's body
+unfoldable pub tokensOf : Version → Record → List ℕ → List ℕ
+tokensOf v r body =
+    pick (eqb (r .opcode) commentOpcode) (commentToken (r .length) ∷ body)
+    (pick (eqb (r .opcode) endOpcode) (endToken ∷ [])
+    (listedTokens r (entryOf v (r .opcode))))
+
+-- the body that a comment has among its tokens; any other instruction has none
+abbrev pub bodyOn : Head → List ℕ → List ℕ
+bodyOn (broken reason) rest = []
+bodyOn end rest = []
+bodyOn (comment n) rest = take n rest
+bodyOn (dcl size) rest = []
+bodyOn (operation places size) rest = []
+
+unfoldable pub bodyOf : Version → List ℕ → List ℕ
+bodyOf v [] = []
+bodyOf v (first ∷ rest) = bodyOn (head v first) rest

@@ -1,0 +1,858 @@
+#include "second.h"
+
+#include <stdbool.h>
+#include <string.h>
+
+/* ---- Versions --------------------------------------------------------- */
+
+enum version { V2, V3, P2, P3, VERSIONS, NO_VERSION = VERSIONS };
+
+static enum version version_of(uint32_t token)
+{
+    switch (token) {
+    case 0xFFFE0200: return V2;
+    case 0xFFFE0300: return V3;
+    case 0xFFFF0200: return P2;
+    case 0xFFFF0300: return P3;
+    default: return NO_VERSION;
+    }
+}
+
+static bool is_version_3(enum version version)
+{
+    return version == V3 || version == P3;
+}
+
+/* ---- Places: what an operand token may be ----------------------------- */
+
+/* The kinds of places an operand token can stand at. */
+enum place {
+    FREE_D,      /* a destination without a rule of its own */
+    CONST_D,     /* DEF */
+    INT_D,       /* DEFI */
+    BOOL_D,      /* DEFB */
+    PREDICATE_D, /* SETP */
+    ADDRESS_D,   /* MOVA */
+    KILL_D,      /* TEXKILL */
+    DECLARED_D,  /* DCL */
+    FREE_S,      /* a source without a rule of its own */
+    LABEL_S,     /* CALL, LABEL, CALLNZ's first */
+    BOOL_S,      /* IF, CALLNZ's second */
+    LOOP_S,      /* LOOP's first */
+    INT_S,       /* LOOP's second, REP */
+    PREDICATE_S, /* BREAKP */
+    SAMPLER_S,   /* second source of TEX, TEXLDL, TEXLDD */
+    PREDICATE,   /* the token behind a predicated instruction's operands */
+    RELATIVE,    /* the token behind an operand with bit 13 */
+    JUDGED_PLACES,
+    RAW = JUDGED_PLACES, /* any 32 bits */
+    USAGE                /* DCL's usage token */
+};
+
+#define TYPE(n) (UINT32_C(1) << (n))
+
+enum { TYPE_SAMPLER = 10, TYPE_MISC = 17, TYPE_PREDICATE = 19 };
+
+static const uint32_t BIT_31 = UINT32_C(1) << 31;
+static const uint32_t BIT_13 = UINT32_C(1) << 13;
+
+/* Bits of a token that its layout fixes: bit 31 as one, the others as zero. */
+#define SOURCE_FIXED UINT32_C(0x8000E000)
+#define VERTEX_FIXED UINT32_C(0x8FE0E000)
+#define PIXEL_FIXED UINT32_C(0x8F80E000)
+#define INDEXABLE(fixed) ((fixed) & ~UINT32_C(0x2000))
+
+/* Modifiers as a set; D is tied to type 19 in judge_token. */
+#define NO_MODIFIER UINT32_C(0x0001)
+#define NONE_OR_NOT UINT32_C(0x2001)
+#define ALL_MODIFIERS UINT32_C(0x387F)
+
+struct layout {
+    uint32_t fixed;     /* bits that must read as BIT_31 */
+    uint32_t modifiers; /* set of values of bits 27:24 */
+    uint32_t types;     /* set of register types */
+};
+
+#define VERTEX_D_TYPES (TYPE(0) | TYPE(3) | TYPE(4) | TYPE(5) | TYPE(6))
+#define PIXEL_D_TYPES (TYPE(0) | TYPE(8) | TYPE(9))
+#define VERTEX_S_TYPES (TYPE(0) | TYPE(1) | TYPE(2) | TYPE(11) | TYPE(12) | TYPE(13))
+#define PIXEL_S_TYPES (VERTEX_S_TYPES | TYPE(3) | TYPE(17))
+
+#define LAYOUTS(fixed_d, free_d, free_s, d_types, s_types, bool_types, relative_types, dcl_types) \
+    {                                                                                             \
+        [FREE_D] = {free_d, NO_MODIFIER, d_types},                                                \
+        [CONST_D] = {fixed_d, NO_MODIFIER, TYPE(2)},                                              \
+        [INT_D] = {fixed_d, NO_MODIFIER, TYPE(7)},                                                \
+        [BOOL_D] = {fixed_d, NO_MODIFIER, TYPE(14)},                                              \
+        [PREDICATE_D] = {fixed_d, NO_MODIFIER, TYPE(19)},                                         \
+        [ADDRESS_D] = {fixed_d, NO_MODIFIER, TYPE(3)},                                            \
+        [KILL_D] = {fixed_d, NO_MODIFIER, TYPE(0) | TYPE(3)},                                     \
+        [DECLARED_D] = {fixed_d, NO_MODIFIER, dcl_types},                                         \
+        [FREE_S] = {free_s, ALL_MODIFIERS, s_types},                                              \
+        [LABEL_S] = {SOURCE_FIXED, ALL_MODIFIERS, TYPE(18)},                                      \
+        [BOOL_S] = {SOURCE_FIXED, ALL_MODIFIERS, bool_types},                                     \
+        [LOOP_S] = {SOURCE_FIXED, ALL_MODIFIERS, TYPE(15)},                                       \
+        [INT_S] = {SOURCE_FIXED, ALL_MODIFIERS, TYPE(7)},                                         \
+        [PREDICATE_S] = {SOURCE_FIXED, ALL_MODIFIERS, TYPE(19)},                                  \
+        [SAMPLER_S] = {SOURCE_FIXED, ALL_MODIFIERS, TYPE(10)},                                    \
+        [PREDICATE] = {SOURCE_FIXED, NONE_OR_NOT, TYPE(19)},                                      \
+        [RELATIVE] = {SOURCE_FIXED, NO_MODIFIER, relative_types},                                 \
+    }
+
+static const struct layout layouts[VERSIONS][JUDGED_PLACES] = {
+    [V2] = LAYOUTS(VERTEX_FIXED, VERTEX_FIXED, INDEXABLE(SOURCE_FIXED),
+                   VERTEX_D_TYPES, VERTEX_S_TYPES,
+                   TYPE(14), TYPE(3) | TYPE(15), TYPE(1)),
+    [V3] = LAYOUTS(VERTEX_FIXED, INDEXABLE(VERTEX_FIXED), INDEXABLE(SOURCE_FIXED),
+                   VERTEX_D_TYPES, VERTEX_S_TYPES,
+                   TYPE(14) | TYPE(19), TYPE(3) | TYPE(15), TYPE(1) | TYPE(6) | TYPE(10)),
+    [P2] = LAYOUTS(PIXEL_FIXED, PIXEL_FIXED, SOURCE_FIXED,
+                   PIXEL_D_TYPES, PIXEL_S_TYPES,
+                   TYPE(14), TYPE(15), TYPE(1) | TYPE(3) | TYPE(10)),
+    [P3] = LAYOUTS(PIXEL_FIXED, PIXEL_FIXED, INDEXABLE(SOURCE_FIXED),
+                   PIXEL_D_TYPES, PIXEL_S_TYPES,
+                   TYPE(14) | TYPE(19), TYPE(15), TYPE(1) | TYPE(3) | TYPE(10) | TYPE(17)),
+};
+
+static uint32_t field(uint32_t token, unsigned low, uint32_t ones)
+{
+    return (token >> low) & ones;
+}
+
+static uint32_t type_of(uint32_t token)
+{
+    return field(token, 28, 7) | field(token, 11, 3) << 3;
+}
+
+/* One operand token at a place: its layout, then its type. */
+static inline uint32_t judge_token(uint32_t token, const struct layout *layout)
+{
+    const uint32_t type = type_of(token);
+    const uint32_t modifier = field(token, 24, 15);
+
+    if ((token & layout->fixed) != BIT_31 || !(layout->modifiers >> modifier & 1))
+        return SECOND_OPERAND;
+    if (modifier == 0xD && type != TYPE_PREDICATE)
+        return SECOND_OPERAND;
+    if (!(layout->types >> type & 1))
+        return SECOND_REGISTER;
+    return SECOND_YES;
+}
+
+/* ---- The opcode table ------------------------------------------------- */
+
+/* What an instruction does to the open blocks. */
+enum flow {
+    PLAIN,
+    OPEN_IF,
+    OPEN_LOOP,
+    OPEN_REP,
+    TURN_ELSE,
+    CLOSE_IF,
+    CLOSE_LOOP,
+    CLOSE_REP,
+    IN_LOOP,  /* stands inside some LOOP or REP */
+    OUTSIDE   /* stands in no block */
+};
+
+struct rule {
+    uint8_t versions;   /* set of versions; 0 for an opcode not in the table */
+    uint8_t predicable; /* in V3 and P3 */
+    uint8_t low, high;  /* lawful controls */
+    uint8_t flow;
+    uint8_t places;     /* operands in places[] */
+    uint8_t place[5];
+};
+
+#define V2_ (1u << V2)
+#define V3_ (1u << V3)
+#define P2_ (1u << P2)
+#define P3_ (1u << P3)
+#define ALL (V2_ | V3_ | P2_ | P3_)
+#define VERTEX (V2_ | V3_)
+#define PIXEL (P2_ | P3_)
+#define NOT_P2 (V2_ | V3_ | P3_)
+#define THREE (V3_ | P3_)
+
+#define DS(set) {set, 1, 0, 0, PLAIN, 2, {FREE_D, FREE_S}}
+#define DSS(set) {set, 1, 0, 0, PLAIN, 3, {FREE_D, FREE_S, FREE_S}}
+#define DSSS(set) {set, 1, 0, 0, PLAIN, 4, {FREE_D, FREE_S, FREE_S, FREE_S}}
+#define BARE(set, flow) {set, 0, 0, 0, flow, 0, {0}}
+#define S(set, flow, s) {set, 0, 0, 0, flow, 1, {s}}
+#define SS(set, flow, s, t) {set, 0, 0, 0, flow, 2, {s, t}}
+#define COMPARE(set, flow) {set, 0, 1, 6, flow, 2, {FREE_S, FREE_S}}
+
+enum { OP_DCL = 31, OP_SINCOS = 37, SINCOS_3 = 97, RULES };
+
+static const struct rule rules[RULES] = {
+    [0] = BARE(ALL, PLAIN),                             /* NOP */
+    [1] = DS(ALL),                                      /* MOV */
+    [2] = DSS(ALL),                                     /* ADD */
+    [3] = DSS(ALL),                                     /* SUB */
+    [4] = DSSS(ALL),                                    /* MAD */
+    [5] = DSS(ALL),                                     /* MUL */
+    [6] = DS(ALL),                                      /* RCP */
+    [7] = DS(ALL),                                      /* RSQ */
+    [8] = DSS(ALL),                                     /* DP3 */
+    [9] = DSS(ALL),                                     /* DP4 */
+    [10] = DSS(ALL),                                    /* MIN */
+    [11] = DSS(ALL),                                    /* MAX */
+    [12] = DSS(VERTEX),                                 /* SLT */
+    [13] = DSS(VERTEX),                                 /* SGE */
+    [14] = DS(ALL),                                     /* EXP */
+    [15] = DS(ALL),                                     /* LOG */
+    [16] = DS(VERTEX),                                  /* LIT */
+    [17] = DSS(VERTEX),                                 /* DST */
+    [18] = DSSS(ALL),                                   /* LRP */
+    [19] = DS(ALL),                                     /* FRC */
+    [20] = DSS(ALL),                                    /* M4x4 */
+    [21] = DSS(ALL),                                    /* M4x3 */
+    [22] = DSS(ALL),                                    /* M3x4 */
+    [23] = DSS(ALL),                                    /* M3x3 */
+    [24] = DSS(ALL),                                    /* M3x2 */
+    [25] = S(NOT_P2, PLAIN, LABEL_S),                   /* CALL */
+    [26] = SS(NOT_P2, PLAIN, LABEL_S, BOOL_S),          /* CALLNZ */
+    [27] = SS(NOT_P2, OPEN_LOOP, LOOP_S, INT_S),        /* LOOP */
+    [28] = BARE(NOT_P2, OUTSIDE),                       /* RET */
+    [29] = BARE(NOT_P2, CLOSE_LOOP),                    /* ENDLOOP */
+    [30] = S(NOT_P2, OUTSIDE, LABEL_S),                 /* LABEL */
+    [OP_DCL] = {ALL, 0, 0, 0, PLAIN, 2, {USAGE, DECLARED_D}},
+    [32] = DSS(ALL),                                    /* POW */
+    [33] = DSS(ALL),                                    /* CRS */
+    [34] = DSSS(VERTEX),                                /* SGN */
+    [35] = DS(ALL),                                     /* ABS */
+    [36] = DS(ALL),                                     /* NRM */
+    [OP_SINCOS] = DSSS(ALL),                            /* SINCOS in V2, P2 */
+    [38] = S(NOT_P2, OPEN_REP, INT_S),                  /* REP */
+    [39] = BARE(NOT_P2, CLOSE_REP),                     /* ENDREP */
+    [40] = S(NOT_P2, OPEN_IF, BOOL_S),                  /* IF */
+    [41] = COMPARE(THREE, OPEN_IF),                     /* IFC */
+    [42] = BARE(NOT_P2, TURN_ELSE),                     /* ELSE */
+    [43] = BARE(NOT_P2, CLOSE_IF),                      /* ENDIF */
+    [44] = BARE(THREE, IN_LOOP),                        /* BREAK */
+    [45] = COMPARE(THREE, IN_LOOP),                     /* BREAKC */
+    [46] = {VERTEX, 1, 0, 0, PLAIN, 2, {ADDRESS_D, FREE_S}}, /* MOVA */
+    [47] = {NOT_P2, 0, 0, 0, PLAIN, 2, {BOOL_D, RAW}},  /* DEFB */
+    [48] = {NOT_P2, 0, 0, 0, PLAIN, 5, {INT_D, RAW, RAW, RAW, RAW}}, /* DEFI */
+    [65] = {PIXEL, 1, 0, 0, PLAIN, 1, {KILL_D}},        /* TEXKILL */
+    [66] = {PIXEL, 1, 0, 2, PLAIN, 3, {FREE_D, FREE_S, SAMPLER_S}}, /* TEX */
+    [78] = DS(VERTEX),                                  /* EXPP */
+    [79] = DS(VERTEX),                                  /* LOGP */
+    [81] = {ALL, 0, 0, 0, PLAIN, 5, {CONST_D, RAW, RAW, RAW, RAW}}, /* DEF */
+    [88] = DSSS(PIXEL),                                 /* CMP */
+    [90] = DSSS(PIXEL),                                 /* DP2ADD */
+    [91] = DS(P3_),                                     /* DSX */
+    [92] = DS(P3_),                                     /* DSY */
+    [93] = {P3_, 1, 0, 0, PLAIN, 5, {FREE_D, FREE_S, SAMPLER_S, FREE_S, FREE_S}}, /* TEXLDD */
+    [94] = {THREE, 1, 1, 6, PLAIN, 3, {PREDICATE_D, FREE_S, FREE_S}}, /* SETP */
+    [95] = {THREE, 1, 0, 0, PLAIN, 3, {FREE_D, FREE_S, SAMPLER_S}},   /* TEXLDL */
+    [96] = S(THREE, IN_LOOP, PREDICATE_S),              /* BREAKP */
+    [SINCOS_3] = DS(THREE), /* not an opcode: SINCOS as V3 and P3 have it */
+};
+
+/* The rule of an opcode in a version, or null. */
+static inline const struct rule *rule_of(enum version version, uint32_t opcode)
+{
+    if (opcode >= SINCOS_3)
+        return NULL;
+    if (opcode == OP_SINCOS && is_version_3(version))
+        return &rules[SINCOS_3];
+    return rules[opcode].versions >> version & 1 ? &rules[opcode] : NULL;
+}
+
+/* ---- One instruction, up to SIZE -------------------------------------- */
+
+/* What DCL's destination asks beyond its layout and its type. */
+static bool is_declarable(uint32_t destination)
+{
+    const uint32_t number = field(destination, 0, 0x7FF);
+
+    if (type_of(destination) != TYPE_MISC)
+        return true;
+    return number == 0 || (number == 1 && field(destination, 16, 0xFF) == 0x0F);
+}
+
+/* DCL's usage token beside a lawful destination of this type. */
+static bool is_usage(enum version version, uint32_t type, uint32_t token)
+{
+    const uint32_t usage = field(token, 0, 0x1F);
+    const uint32_t index = field(token, 16, 0xF);
+    const uint32_t texture = field(token, 27, 0xF);
+
+    if (!(token & BIT_31))
+        return false;
+    if (type == TYPE_SAMPLER)
+        return (token & 0x07FFFFFF) == 0 && texture >= 2 && texture <= 4;
+    if (version == P2 || type == TYPE_MISC)
+        return token == BIT_31;
+    if (token & 0x7FF0FFE0)
+        return false;
+    if (version == P3)
+        return (usage == 5 && index <= 7) || (usage == 10 && index == 0);
+    return usage <= 13;
+}
+
+/*
+ * DCL's operands behind the instruction token at `at`, its size already known
+ * to lie inside the stream. *place is the position of a refusal.
+ */
+static uint32_t judge_dcl(enum version version, const uint32_t *tokens, size_t at,
+                          uint32_t size, size_t *place)
+{
+    uint32_t number;
+
+    *place = at;
+    if (size < 2)
+        return SECOND_SIZE;
+
+    const uint32_t destination = tokens[at + 2];
+    number = judge_token(destination, &layouts[version][DECLARED_D]);
+    if (number == SECOND_YES && !is_declarable(destination))
+        number = SECOND_OPERAND;
+    if (number != SECOND_YES) {
+        *place = at + 2;
+        return number;
+    }
+    if (!is_usage(version, type_of(destination), tokens[at + 1])) {
+        *place = at + 1;
+        return SECOND_OPERAND;
+    }
+    return size == 2 ? SECOND_YES : SECOND_SIZE;
+}
+
+/*
+ * The operands and the predicate behind the instruction token at `at`, left to
+ * right; the stated size ends before `end`. *place as in judge_instruction.
+ */
+static inline uint32_t judge_operands(enum version version, const struct rule *rule,
+                                      bool predicated, const uint32_t *tokens, size_t at,
+                                      size_t end, size_t *place)
+{
+    const struct layout *const set = layouts[version];
+    size_t next = at + 1;
+
+    for (unsigned k = 0; k < rule->places; k++, next++) {
+        if (next == end)
+            return SECOND_SIZE;
+        if (rule->place[k] == RAW)
+            continue;
+
+        const uint32_t token = tokens[next];
+        uint32_t number = judge_token(token, &set[rule->place[k]]);
+        if (number == SECOND_YES && token & BIT_13) {
+            if (++next == end)
+                return SECOND_SIZE;
+            number = judge_token(tokens[next], &set[RELATIVE]);
+        }
+        if (number != SECOND_YES) {
+            *place = next;
+            return number;
+        }
+    }
+    if (predicated) {
+        if (next == end)
+            return SECOND_SIZE;
+        const uint32_t number = judge_token(tokens[next], &set[PREDICATE]);
+        if (number != SECOND_YES) {
+            *place = next;
+            return number;
+        }
+        next++;
+    }
+    if (next != end)
+        return SECOND_SIZE;
+    *place = end;
+    return SECOND_YES;
+}
+
+/*
+ * The instruction, comment or END at tokens[at], where at < count. On a yes
+ * *place is the next place, on a refusal the refusal's position.
+ */
+static uint32_t judge_instruction(enum version version, const uint32_t *tokens, size_t count,
+                                  size_t at, size_t *place)
+{
+    const uint32_t token = tokens[at];
+    const uint32_t opcode = token & 0xFFFF;
+    const size_t left = count - at - 1;
+
+    *place = at;
+
+    if (opcode == SECOND_END) {
+        if (token != SECOND_END)
+            return SECOND_BITS;
+        *place = at + 1;
+        return SECOND_YES;
+    }
+    if (opcode == SECOND_COMMENT) {
+        const uint32_t length = field(token, 16, 0x7FFF);
+        if (token & BIT_31)
+            return SECOND_BITS;
+        if (length > left)
+            return SECOND_RUN_OUT;
+        *place = at + 1 + length;
+        return SECOND_YES;
+    }
+
+    const struct rule *const rule = rule_of(version, opcode);
+    const uint32_t controls = field(token, 16, 0xFF);
+    const uint32_t size = field(token, 24, 0xF);
+    const uint32_t predicated = field(token, 28, 1);
+
+    if (rule == NULL)
+        return SECOND_OPCODE;
+    if (token >> 29 != 0 || controls < rule->low || controls > rule->high)
+        return SECOND_BITS;
+    if (predicated && !(rule->predicable && is_version_3(version)))
+        return SECOND_BITS;
+    if (size > left)
+        return SECOND_RUN_OUT;
+
+    const size_t end = at + 1 + size;
+    if (opcode == OP_DCL) {
+        const uint32_t number = judge_dcl(version, tokens, at, size, place);
+        if (number == SECOND_YES)
+            *place = end;
+        return number;
+    }
+
+    return judge_operands(version, rule, predicated, tokens, at, end, place);
+}
+
+/* ---- Blocks ----------------------------------------------------------- */
+
+/*
+ * The open blocks, two bits each, the innermost lowest. Both kinds of loop
+ * have their upper bit set and no other has. What is closed is shifted out, so
+ * equal blocks are equal numbers.
+ */
+enum { KIND_IF, KIND_ELSE, KIND_LOOP, KIND_REP };
+#define ANY_LOOP UINT64_C(0xAAAAAAAAAAAAAAAA)
+
+struct blocks {
+    uint64_t kinds;
+    uint32_t depth;
+};
+
+static uint32_t open_block(struct blocks *blocks, unsigned kind)
+{
+    if (blocks->depth == SECOND_MAX_BLOCKS)
+        return SECOND_DEPTH;
+    blocks->kinds = blocks->kinds << 2 | kind;
+    blocks->depth++;
+    return SECOND_YES;
+}
+
+static bool innermost_is(const struct blocks *blocks, unsigned kind)
+{
+    return blocks->depth != 0 && (blocks->kinds & 3) == kind;
+}
+
+static uint32_t close_block(struct blocks *blocks, bool fits)
+{
+    if (!fits)
+        return SECOND_BLOCK;
+    blocks->kinds >>= 2;
+    blocks->depth--;
+    return SECOND_YES;
+}
+
+static uint32_t judge_flow(struct blocks *blocks, enum flow flow)
+{
+    switch (flow) {
+    case PLAIN:
+        return SECOND_YES;
+    case OPEN_IF:
+        return open_block(blocks, KIND_IF);
+    case OPEN_LOOP:
+        return open_block(blocks, KIND_LOOP);
+    case OPEN_REP:
+        return open_block(blocks, KIND_REP);
+    case TURN_ELSE:
+        if (!innermost_is(blocks, KIND_IF))
+            return SECOND_BLOCK;
+        blocks->kinds |= KIND_ELSE;
+        return SECOND_YES;
+    case CLOSE_IF:
+        return close_block(blocks, innermost_is(blocks, KIND_IF) || innermost_is(blocks, KIND_ELSE));
+    case CLOSE_LOOP:
+        return close_block(blocks, innermost_is(blocks, KIND_LOOP));
+    case CLOSE_REP:
+        return close_block(blocks, innermost_is(blocks, KIND_REP));
+    case IN_LOOP:
+        return blocks->kinds & ANY_LOOP ? SECOND_YES : SECOND_BLOCK;
+    case OUTSIDE:
+        return blocks->depth == 0 ? SECOND_YES : SECOND_BLOCK;
+    }
+    return SECOND_BLOCK;
+}
+
+/* ---- The walk --------------------------------------------------------- */
+
+struct walk {
+    enum version version;
+    const uint32_t *tokens;
+    size_t count;
+    size_t at;             /* the next instruction; a boundary if below count */
+    struct blocks blocks;  /* open at that place */
+    uint32_t instructions; /* before that place */
+    bool over;             /* judged to its end or refused */
+    uint32_t number;       /* the refusal when over, 0 for a yes */
+    size_t position;
+};
+
+static inline struct walk walk_from(enum version version, const uint32_t *tokens, size_t count)
+{
+    const struct walk walk = {
+        .version = version, .tokens = tokens, .count = count, .at = 1,
+    };
+    return walk;
+}
+
+static inline void walk_over(struct walk *walk, uint32_t number, size_t position)
+{
+    walk->over = true;
+    walk->number = number;
+    walk->position = position;
+}
+
+/* Judges what stands at walk->at and moves behind it, or ends the walk. */
+static inline void walk_on(struct walk *walk)
+{
+    const size_t at = walk->at;
+    size_t place;
+
+    if (at == walk->count) {
+        walk_over(walk, SECOND_RUN_OUT, at);
+        return;
+    }
+
+    const uint32_t opcode = walk->tokens[at] & 0xFFFF;
+    uint32_t number = judge_instruction(walk->version, walk->tokens, walk->count, at, &place);
+    if (number != SECOND_YES) {
+        walk_over(walk, number, place);
+    } else if (opcode == SECOND_END) {
+        if (walk->blocks.depth != 0)
+            walk_over(walk, SECOND_BLOCK, at);
+        else if (place != walk->count)
+            walk_over(walk, SECOND_TAIL, place);
+        else
+            walk_over(walk, SECOND_YES, 0);
+    } else {
+        if (opcode != SECOND_COMMENT) {
+            const enum flow flow = rules[opcode].flow;
+            if (flow != PLAIN)
+                number = judge_flow(&walk->blocks, flow);
+            if (number != SECOND_YES) {
+                walk_over(walk, number, at);
+                return;
+            }
+            walk->instructions++;
+        }
+        walk->at = place;
+    }
+}
+
+/* ---- Check ------------------------------------------------------------ */
+
+static struct second_verdict refused(uint32_t number, size_t position)
+{
+    const struct second_verdict verdict = {number, (uint32_t)position, 0, 0};
+    return verdict;
+}
+
+struct second_verdict second_check(const uint32_t *tokens, size_t count)
+{
+    if (count < 2 || count > SECOND_MAX_TOKENS)
+        return refused(SECOND_LENGTH, 0);
+
+    const enum version version = version_of(tokens[0]);
+    if (version == NO_VERSION)
+        return refused(SECOND_VERSION, 0);
+
+    struct walk walk = walk_from(version, tokens, count);
+    while (!walk.over)
+        walk_on(&walk);
+    if (walk.number != SECOND_YES)
+        return refused(walk.number, walk.position);
+
+    const struct second_verdict yes = {SECOND_YES, 0, (uint32_t)count, walk.instructions};
+    return yes;
+}
+
+struct second_verdict second_check_bytes(const uint8_t *bytes, size_t length)
+{
+    uint32_t tokens[SECOND_MAX_TOKENS];
+    const size_t count = length / 4;
+
+    if (length % 4 != 0 || count > SECOND_MAX_TOKENS)
+        return refused(SECOND_LENGTH, 0);
+    for (size_t k = 0; k < count; k++) {
+        const uint8_t *const b = bytes + 4 * k;
+        tokens[k] = (uint32_t)b[0] | (uint32_t)b[1] << 8 | (uint32_t)b[2] << 16 | (uint32_t)b[3] << 24;
+    }
+    return second_check(tokens, count);
+}
+
+/* ---- Reader ----------------------------------------------------------- */
+
+static bool is_destination(enum place place)
+{
+    return place <= DECLARED_D;
+}
+
+/* Fields of the lawful operand at tokens[at]; gives the place behind it. */
+static size_t unpack_operand(enum place place, const uint32_t *tokens, size_t at,
+                             struct second_operand *operand)
+{
+    const uint32_t token = tokens[at++];
+
+    if (place == RAW || place == USAGE) {
+        operand->raw = token;
+        return at;
+    }
+    operand->number = field(token, 0, 0x7FF);
+    operand->type = type_of(token);
+    operand->relative = field(token, 13, 1);
+    if (is_destination(place)) {
+        operand->mask = field(token, 16, 0xF);
+        operand->result = field(token, 20, 7);
+    } else {
+        operand->swizzle = field(token, 16, 0xFF);
+        operand->modifier = field(token, 24, 0xF);
+    }
+    if (operand->relative) {
+        operand->relative_number = field(tokens[at], 0, 0x7FF);
+        operand->relative_type = type_of(tokens[at]);
+        operand->relative_swizzle = field(tokens[at], 16, 0xFF);
+        at++;
+    }
+    return at;
+}
+
+/* The record of the lawful instruction at tokens[at]. */
+static void unpack(enum version version, const uint32_t *tokens, size_t at,
+                   struct second_record *record)
+{
+    const uint32_t token = tokens[at++];
+    const uint32_t opcode = token & 0xFFFF;
+
+    record->opcode = opcode;
+    if (opcode == SECOND_END)
+        return;
+    if (opcode == SECOND_COMMENT) {
+        record->length = field(token, 16, 0x7FFF);
+        return;
+    }
+
+    const struct rule *const rule = rule_of(version, opcode);
+    record->controls = field(token, 16, 0xFF);
+    record->predicated = field(token, 28, 1);
+    for (unsigned k = 0; k < rule->places; k++)
+        at = unpack_operand(rule->place[k], tokens, at, &record->operands[k]);
+    if (record->predicated)
+        unpack_operand(PREDICATE, tokens, at, &record->operands[SECOND_PREDICATE]);
+}
+
+struct second_read second_read(uint32_t version, const uint32_t *tokens, size_t count, size_t at)
+{
+    struct second_read result = {0};
+    const enum version known = version_of(version);
+    size_t place = 0;
+
+    if (count > SECOND_MAX_TOKENS) {
+        result.number = SECOND_LENGTH;
+    } else if (known == NO_VERSION) {
+        result.number = SECOND_VERSION;
+    } else if (at >= count) {
+        result.number = SECOND_RUN_OUT;
+        place = count;
+    } else {
+        result.number = judge_instruction(known, tokens, count, at, &place);
+        if (result.number == SECOND_YES) {
+            result.next = place;
+            unpack(known, tokens, at, &result.record);
+            return result;
+        }
+    }
+    result.position = (uint32_t)place;
+    return result;
+}
+
+/* ---- Writer ----------------------------------------------------------- */
+
+/* Any record packs into this, also one where all is relative. */
+enum { PACKED_MAX = 1 + 2 * SECOND_OPERANDS };
+
+static uint32_t type_bits(uint32_t type)
+{
+    return field(type, 0, 7) << 28 | field(type, 3, 3) << 11;
+}
+
+/* Fields too wide for their bits lose their upper part here. */
+static size_t pack_operand(enum place place, const struct second_operand *operand,
+                           uint32_t *tokens, size_t at)
+{
+    if (place == RAW || place == USAGE) {
+        tokens[at++] = operand->raw;
+        return at;
+    }
+
+    uint32_t token = BIT_31 | type_bits(operand->type) | field(operand->number, 0, 0x7FF);
+    if (is_destination(place))
+        token |= field(operand->mask, 0, 0xF) << 16 | field(operand->result, 0, 7) << 20;
+    else
+        token |= field(operand->swizzle, 0, 0xFF) << 16 | field(operand->modifier, 0, 0xF) << 24;
+
+    if (operand->relative == 0) {
+        tokens[at++] = token;
+    } else {
+        tokens[at++] = token | BIT_13;
+        tokens[at++] = BIT_31 | type_bits(operand->relative_type)
+                     | field(operand->relative_number, 0, 0x7FF)
+                     | field(operand->relative_swizzle, 0, 0xFF) << 16;
+    }
+    return at;
+}
+
+/*
+ * The tokens of a record that is neither a comment nor END: 0 if the record is
+ * none that the reader gives. A record and the tokens it is read from determine
+ * each other, so it is enough to read the packed tokens back and compare.
+ */
+static size_t pack(uint32_t version, const struct second_record *record,
+                   uint32_t tokens[PACKED_MAX])
+{
+    const struct rule *const rule = rule_of(version_of(version), record->opcode);
+    size_t at = 1;
+
+    if (rule == NULL)
+        return 0;
+    for (unsigned k = 0; k < rule->places; k++)
+        at = pack_operand(rule->place[k], &record->operands[k], tokens, at);
+    if (record->predicated)
+        at = pack_operand(PREDICATE, &record->operands[SECOND_PREDICATE], tokens, at);
+    tokens[0] = record->opcode | field(record->controls, 0, 0xFF) << 16 | (uint32_t)(at - 1) << 24
+              | (record->predicated ? UINT32_C(1) << 28 : 0);
+
+    const struct second_read back = second_read(version, tokens, at, 0);
+    if (back.number != SECOND_YES || memcmp(&back.record, record, sizeof *record) != 0)
+        return 0;
+    return at;
+}
+
+_Static_assert(sizeof(struct second_record) == (4 + 11 * SECOND_OPERANDS) * sizeof(uint32_t),
+               "records are compared as bytes and must not hold padding");
+
+struct second_written second_write(uint32_t version, const struct second_record *record,
+                                   const uint32_t *body, size_t body_length,
+                                   uint32_t *buffer, size_t buffer_length, size_t at)
+{
+    const struct second_written wrong_record = {SECOND_RECORD, 0, 0};
+    uint32_t head[PACKED_MAX];
+    size_t head_length = 1;
+
+    if (version_of(version) == NO_VERSION) {
+        const struct second_written wrong_version = {SECOND_VERSION, 0, 0};
+        return wrong_version;
+    }
+
+    if (record->opcode == SECOND_COMMENT || record->opcode == SECOND_END) {
+        struct second_record only = {.opcode = record->opcode};
+        if (record->opcode == SECOND_COMMENT && record->length < SECOND_MAX_TOKENS)
+            only.length = record->length;
+        if (memcmp(&only, record, sizeof only) != 0)
+            return wrong_record;
+        head[0] = record->opcode | record->length << 16;
+    } else {
+        head_length = pack(version, record, head);
+        if (head_length == 0)
+            return wrong_record;
+    }
+    if (body_length != record->length)
+        return wrong_record;
+
+    if (at > buffer_length || head_length + body_length > buffer_length - at) {
+        const struct second_written no_room = {SECOND_ROOM, 0, 0};
+        return no_room;
+    }
+    for (size_t k = 0; k < head_length; k++)
+        buffer[at + k] = head[k];
+    for (size_t k = 0; k < body_length; k++)
+        buffer[at + head_length + k] = body[k];
+
+    const struct second_written written = {SECOND_YES, 0, at + head_length + body_length};
+    return written;
+}
+
+/* ---- Edit ------------------------------------------------------------- */
+
+static struct second_edited not_edited(uint32_t number, size_t position)
+{
+    const struct second_edited edited = {number, (uint32_t)position, 0, 0};
+    return edited;
+}
+
+static void copy_tokens(uint32_t *to, const uint32_t *from, size_t count)
+{
+    if (count != 0)
+        memcpy(to, from, count * sizeof *to);
+}
+
+static bool same_blocks(struct blocks a, struct blocks b)
+{
+    return a.depth == b.depth && a.kinds == b.kinds;
+}
+
+struct second_edited second_edit(uint32_t *buffer, size_t buffer_length, size_t n,
+                                 size_t i, size_t j, const uint32_t *run, size_t m)
+{
+    uint32_t splice[SECOND_MAX_TOKENS];
+
+    if (n < 2 || n > SECOND_MAX_TOKENS || n > buffer_length)
+        return not_edited(SECOND_LENGTH, 0);
+    const enum version version = version_of(buffer[0]);
+    if (version == NO_VERSION)
+        return not_edited(SECOND_VERSION, 0);
+
+    /* The old stream: are i and j boundaries, and what is open at j. */
+    bool found_i = false, found_j = false;
+    struct blocks open_at_j = {0, 0};
+    for (struct walk old = walk_from(version, buffer, n); !old.over; walk_on(&old)) {
+        if (old.at == n)
+            break;
+        if (old.at == i)
+            found_i = true;
+        if (old.at == j) {
+            found_j = true;
+            open_at_j = old.blocks;
+        }
+    }
+    if (!found_i || !found_j || i > j)
+        return not_edited(SECOND_PLACE, 0);
+
+    const size_t kept = n - (j - i);
+    if (m > SECOND_MAX_TOKENS - kept || m > buffer_length - kept)
+        return not_edited(SECOND_ROOM, 0);
+    const size_t length = kept + m;
+
+    copy_tokens(splice, buffer, i);
+    copy_tokens(splice + i, run, m);
+    copy_tokens(splice + i + m, buffer + j, n - j);
+
+    /* The new one: read until it meets the old walk, or to its end. */
+    bool joined = false;
+    struct walk new = walk_from(version, splice, length);
+    while (!new.over && !joined) {
+        if (new.at == i + m && same_blocks(new.blocks, open_at_j))
+            joined = true;
+        else
+            walk_on(&new);
+    }
+    if (!joined && new.number != SECOND_YES)
+        return not_edited(new.number, new.position);
+
+    copy_tokens(buffer, splice, length);
+    const struct second_edited edited = {SECOND_YES, 0, joined, length};
+    return edited;
+}

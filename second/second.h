@@ -1,0 +1,112 @@
+/*
+ * A second program for the rules of document 01: check, reader, writer and
+ * edit of shader token streams (vs_2_0, vs_3_0, ps_2_0, ps_3_0).
+ *
+ * Nothing here allocates or keeps state between calls. A pointer whose length
+ * is 0 may be null.
+ */
+#ifndef SECOND_H
+#define SECOND_H
+
+#include <stddef.h>
+#include <stdint.h>
+
+enum second_number {
+    SECOND_YES = 0,
+    SECOND_LENGTH = 1,
+    SECOND_VERSION = 2,
+    SECOND_OPCODE = 3,
+    SECOND_BITS = 4,
+    SECOND_RUN_OUT = 5,
+    SECOND_SIZE = 6,
+    SECOND_OPERAND = 7,
+    SECOND_REGISTER = 8,
+    SECOND_BLOCK = 9,
+    SECOND_DEPTH = 10,
+    SECOND_TAIL = 11,
+    SECOND_PLACE = 12,
+    SECOND_ROOM = 13,
+    SECOND_RECORD = 14
+};
+
+enum {
+    SECOND_MAX_TOKENS = 16384, /* longest stream */
+    SECOND_MAX_BLOCKS = 24,    /* most blocks open at once */
+    SECOND_OPERANDS = 6,       /* five operands and the predicate */
+    SECOND_PREDICATE = 5,      /* the predicate's place in a record */
+    SECOND_COMMENT = 0xFFFE,   /* opcode of a comment's record */
+    SECOND_END = 0xFFFF        /* opcode of END's record */
+};
+
+/* Yes: number 0, position 0, the token count and the instruction count.
+   Refusal: number and position, the counts 0. */
+struct second_verdict {
+    uint32_t number, position, tokens, instructions;
+};
+
+/* Judges a stream given as tokens. */
+struct second_verdict second_check(const uint32_t *tokens, size_t count);
+
+/* Judges a stream given as bytes, each token little-endian. */
+struct second_verdict second_check_bytes(const uint8_t *bytes, size_t length);
+
+/*
+ * One operand of a record.
+ *   destination  number, type, mask, result (bits 22:20), relative
+ *   source       number, type, swizzle, modifier, relative
+ *   R or U       raw
+ * relative is 1 where a relative token follows; the relative_ fields are that
+ * token's. All fields not named are 0.
+ */
+struct second_operand {
+    uint32_t number, type, mask, swizzle, modifier, result;
+    uint32_t relative, relative_number, relative_type, relative_swizzle;
+    uint32_t raw;
+};
+
+/*
+ * One instruction. operands[0] to operands[4] are in token order, the
+ * predicate is always operands[5]; unused places are all zero.
+ *   comment  opcode SECOND_COMMENT and length, all else 0
+ *   END      opcode SECOND_END, all else 0
+ *   other    length 0
+ */
+struct second_record {
+    uint32_t opcode, controls, predicated, length;
+    struct second_operand operands[SECOND_OPERANDS];
+};
+
+/* Refusal: next 0, record all zero. */
+struct second_read {
+    uint32_t number, position;
+    uint64_t next;
+    struct second_record record;
+};
+
+/* Reads the instruction at tokens[at]. Positions count from tokens[0]. */
+struct second_read second_read(uint32_t version, const uint32_t *tokens, size_t count, size_t at);
+
+/* Refusal: next 0. */
+struct second_written {
+    uint32_t number, position;
+    uint64_t next;
+};
+
+/* Writes a record at buffer[at]; body is a comment's content, else empty. */
+struct second_written second_write(uint32_t version, const struct second_record *record,
+                                   const uint32_t *body, size_t body_length,
+                                   uint32_t *buffer, size_t buffer_length, size_t at);
+
+/* Yes: number 0, joined 1 for JOINED and 0 for ACCEPTED, the new length.
+   Refusal: joined 0, length 0, and the buffer is as it was. */
+struct second_edited {
+    uint32_t number, position;
+    uint32_t joined;
+    uint64_t length;
+};
+
+/* Replaces the tokens i to j of the stream buffer[0..n] by a run of m tokens. */
+struct second_edited second_edit(uint32_t *buffer, size_t buffer_length, size_t n,
+                                 size_t i, size_t j, const uint32_t *run, size_t m);
+
+#endif

@@ -1,0 +1,123 @@
+/*
+ * The proved library beside the second program, on the same data: every answer, every record and every
+ * buffer is compared. Prints each difference (the first few) and, last, 'N passed, M failed'.
+ *
+ *   compare [SEED [ROUNDS]]
+ */
+#include "../../include/santubeli.h"
+#include "../../second/second.h"
+#include "../generator/generate.h"
+
+#include <inttypes.h>
+#include <stdbool.h>
+#include <stdio.h>
+#include <stdlib.h>
+#include <string.h>
+
+enum { SHOWN = 20 };
+
+static uint64_t passed, failed;
+
+static bool count(bool same)
+{
+    if (same)
+        passed++;
+    else
+        failed++;
+    return !same && failed <= SHOWN;
+}
+
+static void show(const char *what, const uint32_t *tokens, size_t length)
+{
+    printf("%s:", what);
+    for (size_t k = 0; k < length && k < 40; k++)
+        printf(" %08" PRIX32, tokens[k]);
+    printf(length > 40 ? " ...\n" : "\n");
+}
+
+/* ---- Check ------------------------------------------------------------ */
+
+static bool same_verdict(struct second_verdict expected, struct santubeli_verdict given)
+{
+    return expected.number == given.number && expected.position == given.position
+        && expected.tokens == given.tokens && expected.instructions == given.instructions;
+}
+
+static void to_bytes(const uint32_t *tokens, size_t length, uint8_t *bytes)
+{
+    for (size_t k = 0; k < length; k++)
+        for (unsigned b = 0; b < 4; b++)
+            bytes[4 * k + b] = (uint8_t)(tokens[k] >> (8 * b));
+}
+
+static void check_stream(void *context, const uint32_t *tokens, size_t length)
+{
+    static uint8_t bytes[4 * GENERATE_ROOM];
+    const struct second_verdict expected = second_check(tokens, length);
+    (void)context;
+
+    const struct santubeli_verdict given = santubeli_check_tokens(tokens, length);
+    if (count(same_verdict(expected, given))) {
+        show("check of tokens", tokens, length);
+        printf("  second %" PRIu32 "@%" PRIu32 " proved %" PRIu32 "@%zu\n", expected.number, expected.position,
+               given.number, given.position);
+    }
+    to_bytes(tokens, length, bytes);
+    const struct santubeli_verdict of_bytes = santubeli_check(bytes, 4 * length);
+    if (count(same_verdict(expected, of_bytes))) {
+        show("check of bytes", tokens, length);
+        printf("  second %" PRIu32 "@%" PRIu32 " proved %" PRIu32 "@%zu\n", expected.number, expected.position,
+               of_bytes.number, of_bytes.position);
+    }
+}
+
+/* Bytes that are no multiple of four, and lengths around the limits. */
+static void check_lengths(struct generate_source *source)
+{
+    static uint8_t bytes[4 * (GENERATE_MAX + 2)];
+    static uint32_t tokens[GENERATE_ROOM];
+    generate_valid(source, 0, tokens, GENERATE_MAX);
+    to_bytes(tokens, GENERATE_MAX, bytes);
+    for (size_t length = 0; length < 64; length++) {
+        const struct second_verdict expected = second_check_bytes(bytes, length);
+        if (count(same_verdict(expected, santubeli_check(bytes, length))))
+            printf("check of %zu bytes\n", length);
+    }
+    for (size_t length = 4 * GENERATE_MAX - 8; length <= 4 * GENERATE_MAX + 8; length++) {
+        const struct second_verdict expected = second_check_bytes(bytes, length);
+        if (count(same_verdict(expected, santubeli_check(bytes, length))))
+            printf("check of %zu bytes\n", length);
+    }
+}
+
+static void check_all(struct generate_source *source, unsigned rounds)
+{
+    static uint32_t tokens[GENERATE_ROOM];
+    for (unsigned round = 0; round < rounds; round++) {
+        const unsigned version = round % GENERATE_VERSIONS;
+        const size_t maximum = round % 64 == 0 ? GENERATE_MAX : 400;
+        const size_t length = generate_length(source, maximum);
+        generate_valid(source, version, tokens, length);
+        check_stream(NULL, tokens, length);
+        const size_t damaged = generate_damaged(source, version, tokens, maximum);
+        check_stream(NULL, tokens, damaged);
+    }
+    for (unsigned version = 0; version < GENERATE_VERSIONS; version++)
+        for (unsigned depth = 1; version != 2 && depth <= 26; depth++) {
+            const size_t length = generate_nested(source, version, tokens, depth);
+            check_stream(NULL, tokens, length);
+        }
+    check_lengths(source);
+    generate_systematic(check_stream, NULL);
+}
+
+int main(int argc, char **argv)
+{
+    const uint64_t seed = argc > 1 ? strtoull(argv[1], NULL, 0) : 1;
+    const unsigned rounds = argc > 2 ? (unsigned)strtoul(argv[2], NULL, 0) : 20000;
+    struct generate_source source = generate_seed(seed);
+
+    check_all(&source, rounds);
+    printf("%" PRIu64 " passed, %" PRIu64 " failed\n", passed, failed);
+    return failed != 0;
+}
