@@ -111,6 +111,71 @@ static void check_all(struct generate_source *source, unsigned rounds)
     generate_systematic(check_stream, NULL);
 }
 
+/* ---- Read ------------------------------------------------------------- */
+
+/* The two records have the same fields in the same order, all uint32_t. */
+_Static_assert(sizeof(struct second_record) == sizeof(struct santubeli_record), "records differ in size");
+
+static bool same_reading(const struct second_read *expected, const struct santubeli_reading *given)
+{
+    return expected->number == given->number && expected->position == given->position && expected->next == given->next
+        && memcmp(&expected->record, &given->record, sizeof given->record) == 0;
+}
+
+static void read_at(uint32_t version, const uint32_t *tokens, size_t length, size_t at)
+{
+    const struct second_read expected = second_read(version, tokens, length, at);
+    const struct santubeli_reading given = santubeli_read(version, tokens, length, at);
+    if (count(same_reading(&expected, &given))) {
+        show("read", tokens, length);
+        printf("  at %zu: second %" PRIu32 "@%" PRIu32 " proved %" PRIu32 "@%zu\n", at, expected.number, expected.position,
+               given.number, given.position);
+    }
+}
+
+/* Reads from boundary to boundary, and at some places between. */
+static void read_stream(struct generate_source *source, const uint32_t *tokens, size_t length)
+{
+    for (size_t at = 1; at < length;) {
+        const struct second_read one = second_read(tokens[0], tokens, length, at);
+        read_at(tokens[0], tokens, length, at);
+        if (one.number != 0)
+            break;
+        at = one.next;
+    }
+    for (unsigned k = 0; k < 4; k++)
+        read_at(tokens[0], tokens, length, generate_below(source, length + 2));
+}
+
+static void read_one(void *context, const uint32_t *tokens, size_t length)
+{
+    (void)context;
+    if (length > 1)
+        read_at(tokens[0], tokens, length, 1);
+}
+
+static void read_all(struct generate_source *source, unsigned rounds)
+{
+    static uint32_t tokens[GENERATE_ROOM];
+    for (unsigned round = 0; round < rounds; round++) {
+        const unsigned version = round % GENERATE_VERSIONS;
+        const size_t length = generate_length(source, 200);
+        generate_valid(source, version, tokens, length);
+        read_stream(source, tokens, length);
+        const size_t damaged = generate_damaged(source, version, tokens, 200);
+        if (damaged > 0)
+            read_stream(source, tokens, damaged);
+    }
+    generate_valid(source, 0, tokens, GENERATE_MAX);
+    tokens[GENERATE_MAX] = 0;
+    read_at(tokens[0], tokens, GENERATE_MAX, 1);
+    read_at(tokens[0], tokens, GENERATE_MAX + 1, 1);
+    read_at(tokens[0], tokens, 5, SIZE_MAX);
+    read_at(0, tokens, 5, 1);
+    read_at(tokens[0], NULL, 0, 0);
+    generate_systematic(read_one, NULL);
+}
+
 int main(int argc, char **argv)
 {
     const uint64_t seed = argc > 1 ? strtoull(argv[1], NULL, 0) : 1;
@@ -118,6 +183,7 @@ int main(int argc, char **argv)
     struct generate_source source = generate_seed(seed);
 
     check_all(&source, rounds);
+    read_all(&source, rounds / 4);
     printf("%" PRIu64 " passed, %" PRIu64 " failed\n", passed, failed);
     return failed != 0;
 }

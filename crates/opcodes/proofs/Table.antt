@@ -1,5 +1,5 @@
 -- The rows that the code decides by are the paper's table: below 97 by one computed test, from 97 on since both name smaller opcodes only.
-use Prim.Native.Nat.{ℕ, _/_, _%_, _^_, _≤_, _<_}
+use Prim.Native.Nat.{ℕ, _+_, _/_, _%_, _^_, _≤_, _<_}
 use mathlib.Core.Path.{_≡_, refl, sym, _∙_}
 use mathlib.Core.Bool.{Bool, true, false, not, _&&_, _||_}
 use mathlib.Core.List.{List, [], _∷_}
@@ -8,11 +8,11 @@ use lib.Dec.{eqb, leb, ltb}
 use borrow.Author.Tests.{eq-eqb, ne-eqb, ltb-true, le-leb, leb-false, eqb-true, not-true}
 use Rattle.paper.specs.Notation.{pick, among, holds}
 use Rattle.paper.specs.Versions.{rank}
-use Rattle.paper.specs.OpcodeTable.{Row, absent, lookup, isOne, rows, entryOf}
-use Rattle.paper.specs.OperandTokens.{typedPlaces}
+use Rattle.paper.specs.OpcodeTable.{DCL, DEF, Row, absent, lookup, isOne, rows, entryOf}
+use Rattle.paper.specs.OperandTokens.{raw, usage, destinationOf, freeDestination, typedPlaces}
 use Rattle.paper.specs.declared.Version.{Version}
 use Rattle.paper.specs.declared.Version.the-variants.{V2, V3, P2, P3}
-use Rattle.opcodes.specs.Shape.{shapeOf}
+use Rattle.opcodes.specs.Shape.{digits, shapeOf}
 use Rattle.opcodes.specs.Rows.{Decisions, none, test, orOneOf, oneOf, decided, fromNone, third, shapeAt, commonPlaces}
 use Rattle.paper.proofs.Below.{both-left, both-right}
 use Rattle.opcodes.proofs.Computed.{computed}
@@ -140,3 +140,18 @@ common v opcode some =
       rule = eqb-true (shapeOf v opcode / 2 ^ 38 % 4) 0 (both-left _ _ rest);
       listed = not-true (eqb (shapeOf v opcode) 0) (both-right (eqb (shapeOf v opcode / 2 ^ 38 % 4) 0) _ rest);
     }
+
+-- DCL and DEF have one shape in every version
+pub dcl-shape : (v : Version) → shapeOf v DCL ≡ digits (usage ∷ freeDestination ∷ []) + 2 ^ 40
+unfolding rows entryOf typedPlaces shapeOf
+dcl-shape V2 = refl
+dcl-shape V3 = refl
+dcl-shape P2 = refl
+dcl-shape P3 = refl
+
+pub def-shape : (v : Version) → shapeOf v DEF ≡ digits (destinationOf 2 ∷ raw ∷ raw ∷ raw ∷ raw ∷ []) + 2 ^ 40
+unfolding rows entryOf typedPlaces shapeOf
+def-shape V2 = refl
+def-shape V3 = refl
+def-shape P2 = refl
+def-shape P3 = refl

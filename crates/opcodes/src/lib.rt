@@ -256,6 +256,13 @@ pub fn common_places(opcode: u32) -> u64
 pub fn shape_of(version: Version, opcode: u32) -> u64
     ensures { λ r. ⌜ r ≡ shapeOf version opcode ⌝ }
 {
+    // every version lists these alike, and a shader begins with many
+    if opcode == 31 {
+        return rows::DCL_SHAPE;
+    }
+    if opcode == 81 {
+        return rows::DEF_SHAPE;
+    }
     let rank = rank_of(version);
     let row = row_of(opcode, rank % 2 == 1);
     shape_at(rank, row)

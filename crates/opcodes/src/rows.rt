@@ -164,3 +164,8 @@ pub const DS_PLACES: u64 = D + NEXT * S;
 pub const DSS_PLACES: u64 = D + NEXT * (S + NEXT * S);
 
 pub const DSSS_PLACES: u64 = D + NEXT * (S + NEXT * (S + NEXT * S));
+
+// Shapes that every version has.
+pub const DCL_SHAPE: u64 = DCL / 16;
+
+pub const DEF_SHAPE: u64 = DEF / 16;

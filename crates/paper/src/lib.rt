@@ -1,4 +1,6 @@
 // The words of document 01 that code and definitions share. The definitions themselves stand in specs/, a file to a section.
+ghost use mathlib.Core.Path.{_≡_};
+ghost use Rattle.paper.specs.Numbers.{numberOf};
 
 // "The base knows four versions."
 pub enum Version {
@@ -30,6 +32,27 @@ pub enum Reason {
     Place,
     Room,
     Record,
+}
+
+pub fn number_of(reason: Reason) -> u32
+    ensures { λ r. ⌜ r ≡ numberOf reason ⌝ }
+{
+    match reason {
+        Reason::Length => 1,
+        Reason::Version => 2,
+        Reason::Opcode => 3,
+        Reason::Bits => 4,
+        Reason::RunOut => 5,
+        Reason::Size => 6,
+        Reason::Operand => 7,
+        Reason::Register => 8,
+        Reason::Block => 9,
+        Reason::Depth => 10,
+        Reason::Tail => 11,
+        Reason::Place => 12,
+        Reason::Room => 13,
+        Reason::Record => 14,
+    }
 }
 
 // A refusal: why, and the position of a token.

@@ -3,9 +3,22 @@ use Prim.Native.Nat.{ℕ}
 use Rattle.paper.specs.Numbers.{numberOf}
 use Rattle.paper.specs.declared.Verdict.{Verdict}
 use Rattle.paper.specs.declared.Verdict.the-variants.{Accepted, Refused}
+use Rattle.records.specs.declared.Record.{Record}
+use Rattle.reader.specs.declared.Answer.{Answer as Answered}
+use Rattle.reader.specs.declared.Answer.the-variants.{Got, Refused as Unread}
+use Rattle.reader.specs.declared.Reading.{Reading}
 use Rattle.santubeli.specs.declared.Answer.{Answer}
+use Rattle.santubeli.specs.declared.ReadAnswer.{ReadAnswer}
 
 -- a yes gives the stream's tokens and its instructions, a refusal neither
 abbrev pub answerOf : ℕ → Verdict → Answer
 answerOf tokens (Accepted n) = record { number = 0; position = 0; tokens = tokens; instructions = n }
 answerOf tokens (Refused r) = record { number = numberOf (r .reason); position = r .position; tokens = 0; instructions = 0 }
+
+-- a reading: the next place and the record of a yes; a refusal's record is all zero and its next place 0
+abbrev pub readAnswer : Answered → Record → ReadAnswer
+readAnswer (Got next) instruction = record { number = 0; position = 0; next = next; instruction = instruction }
+readAnswer (Unread r) instruction = record { number = numberOf (r .reason); position = r .position; next = 0; instruction = instruction }
+
+abbrev pub readAnswerOf : Reading → ReadAnswer
+readAnswerOf reading = readAnswer (reading .answer) (reading .instruction)

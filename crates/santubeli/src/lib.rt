@@ -2,12 +2,12 @@
 ghost use mathlib.Core.Path.{_≡_};
 ghost use Prim.Native.Nat.{_/_};
 ghost use lib.ListN.{length};
-ghost use Rattle.paper.specs.Numbers.{numberOf};
 ghost use Rattle.paper.specs.Stream.{verdict};
 ghost use Rattle.bytes.specs.Bytes.{bytesVerdict};
-ghost use Rattle.santubeli.specs.Entries.{answerOf};
-use paper::Reason;
+ghost use Rattle.reader.specs.Reading.{reading};
+ghost use Rattle.santubeli.specs.Entries.{answerOf, readAnswerOf};
 use paper::Verdict;
+use records::Record;
 
 #[repr(C)]
 pub struct Answer {
@@ -15,27 +15,6 @@ pub struct Answer {
     pub position: usize,
     pub tokens: usize,
     pub instructions: usize,
-}
-
-fn number_of(reason: Reason) -> u32
-    ensures { λ r. ⌜ r ≡ numberOf reason ⌝ }
-{
-    match reason {
-        Reason::Length => 1,
-        Reason::Version => 2,
-        Reason::Opcode => 3,
-        Reason::Bits => 4,
-        Reason::RunOut => 5,
-        Reason::Size => 6,
-        Reason::Operand => 7,
-        Reason::Register => 8,
-        Reason::Block => 9,
-        Reason::Depth => 10,
-        Reason::Tail => 11,
-        Reason::Place => 12,
-        Reason::Room => 13,
-        Reason::Record => 14,
-    }
 }
 
 fn answer_of(tokens: usize, verdict: Verdict) -> Answer
@@ -51,7 +30,7 @@ fn answer_of(tokens: usize, verdict: Verdict) -> Answer
         Verdict::Refused(refusal) => {
             let reason = refusal.reason;
             Answer {
-                number: number_of(reason),
+                number: paper::number_of(reason),
                 position: refusal.position,
                 tokens: 0,
                 instructions: 0,
@@ -74,4 +53,38 @@ pub extern "C" fn santubeli_check_tokens(tokens: &[u32]) -> Answer
 {
     let verdict = checking::check(tokens);
     answer_of(tokens.len(), verdict)
+}
+
+#[repr(C)]
+pub struct ReadAnswer {
+    pub number: u32,
+    pub position: usize,
+    pub next: usize,
+    pub instruction: Record,
+}
+
+#[no_mangle]
+pub extern "C" fn santubeli_read(version: u32, tokens: &[u32], at: usize) -> ReadAnswer
+    ensures { λ r. ⌜ r ≡ readAnswerOf (reading version (now (tokens .entry)) at) ⌝ }
+{
+    let read = reader::read(version, tokens, at);
+    let instruction = read.instruction;
+    let answer = read.answer;
+    match answer {
+        reader::Answer::Got(next) => ReadAnswer {
+            number: 0,
+            position: 0,
+            next,
+            instruction,
+        },
+        reader::Answer::Refused(refusal) => {
+            let reason = refusal.reason;
+            ReadAnswer {
+                number: paper::number_of(reason),
+                position: refusal.position,
+                next: 0,
+                instruction,
+            }
+        }
+    }
 }

@@ -1,0 +1,92 @@
+-- Document 01, "Shop pieces to run and prove": those marked *, of the definitions, under one claim.
+use mathlib.Core.Path.{_≡_, refl}
+use mathlib.Core.Bool.{Bool, true, _&&_}
+use mathlib.Core.List.{List, [], _∷_}
+use Prim.Native.Nat.{ℕ}
+use lib.Dec.{eqb}
+use lib.ListN.{length}
+use Rattle.paper.specs.Notation.{holds}
+use Rattle.paper.specs.Numbers.{Told}
+use Rattle.paper.specs.OpcodeTable.{entryOf, rows}
+use Rattle.paper.specs.OperandTokens.{tokenAt, typedPlaces}
+use Rattle.paper.specs.Dcl.{declaration}
+use Rattle.paper.specs.Instruction.{head, operand, operands, judged}
+use Rattle.paper.specs.Blocks.{classOf}
+use Rattle.paper.specs.Walk.{walk}
+use Rattle.paper.specs.Stream.{cutting, cutFrom, count, walked, verdict, checked}
+use Rattle.edit.specs.Boundaries.{standing, standingAt}
+use Rattle.edit.specs.Edit.{meetsAtEnd, edited, editedIn, ToldEdit, toldEdit}
+
+-- what is asked of a stream: a check, or an edit from i to j by a run, in a buffer that the stream fills
+data Asked : Type 0 where
+  check : Asked
+  edit : ℕ → ℕ → List ℕ → Asked
+
+-- an answer: its number and position; of a yes the count of instructions, or the new length; and whether it is JOINED
+record Answer : Type 0 where
+  number : ℕ
+  position : ℕ
+  value : ℕ
+  joined : ℕ
+
+abbrev answer : ℕ → ℕ → ℕ → ℕ → Answer
+answer number position value joined = record { number = number; position = position; value = value; joined = joined }
+
+abbrev ofCheck : Told → Answer
+ofCheck told = answer (told .number) (told .position) (told .count) 0
+
+abbrev ofEdit : ToldEdit → Answer
+ofEdit told = answer (told .number) (told .position) (told .length) (told .joined)
+
+abbrev given : List ℕ → Asked → Answer
+given tokens check = ofCheck (checked tokens)
+given tokens (edit i j run) = ofEdit (toldEdit (editedIn tokens (length tokens) i j run))
+
+record Piece : Type 0 where
+  tokens : List ℕ
+  asked : Asked
+  told : Answer
+
+abbrev piece : List ℕ → Asked → Answer → Piece
+piece tokens asked told = record { tokens = tokens; asked = asked; told = told }
+
+abbrev same : Answer → Answer → Bool
+same a b = eqb (a .number) (b .number) && (eqb (a .position) (b .position) && (eqb (a .value) (b .value) && eqb (a .joined) (b .joined)))
+
+abbrev allTold : List Piece → Bool
+allTold [] = true
+allTold (p ∷ ps) = same (given (p .tokens) (p .asked)) (p .told) && allTold ps
+
+unfoldable pieces : List Piece
+pieces =
+    -- the empty shader
+    piece (0xFFFE0200 ∷ 0x0000FFFF ∷ []) check (answer 0 0 0 0) ∷
+    -- one token alone
+    piece (0xFFFE0200 ∷ []) check (answer 1 0 0 0) ∷
+    -- M: mov r0, c0
+    piece (0xFFFE0200 ∷ 0x02000001 ∷ 0x800F0000 ∷ 0xA0E40000 ∷ 0x0000FFFF ∷ []) check (answer 0 0 1 0) ∷
+    -- M, one token too few stated
+    piece (0xFFFE0200 ∷ 0x01000001 ∷ 0x800F0000 ∷ 0xA0E40000 ∷ 0x0000FFFF ∷ []) check (answer 6 1 0 0) ∷
+    -- M, a size that passes the end
+    piece (0xFFFE0200 ∷ 0x04000001 ∷ 0x800F0000 ∷ 0xA0E40000 ∷ 0x0000FFFF ∷ []) check (answer 5 1 0 0) ∷
+    -- M with a reserved bit
+    piece (0xFFFE0200 ∷ 0x02000001 ∷ 0x800F4000 ∷ 0xA0E40000 ∷ 0x0000FFFF ∷ []) check (answer 7 2 0 0) ∷
+    -- END with a stray bit
+    piece (0xFFFE0200 ∷ 0x0001FFFF ∷ []) check (answer 4 1 0 0) ∷
+    -- no END
+    piece (0xFFFE0200 ∷ 0x00000000 ∷ []) check (answer 5 2 0 0) ∷
+    -- a token behind END
+    piece (0xFFFE0200 ∷ 0x0000FFFF ∷ 0x0000FFFF ∷ []) check (answer 11 2 0 0) ∷
+    -- an IF left open
+    piece (0xFFFE0200 ∷ 0x01000028 ∷ 0xE0E40800 ∷ 0x0000FFFF ∷ []) check (answer 9 3 0 0) ∷
+    -- BREAK in V2
+    piece (0xFFFE0200 ∷ 0x0000002C ∷ 0x0000FFFF ∷ []) check (answer 3 1 0 0) ∷
+    -- E without its ELSE
+    piece (0xFFFE0200 ∷ 0x01000028 ∷ 0xE0E40800 ∷ 0x0000002A ∷ 0x0000002B ∷ 0x0000FFFF ∷ []) (edit 3 4 []) (answer 0 0 5 0) ∷
+    -- E without its IF
+    piece (0xFFFE0200 ∷ 0x01000028 ∷ 0xE0E40800 ∷ 0x0000002A ∷ 0x0000002B ∷ 0x0000FFFF ∷ []) (edit 1 3 []) (answer 9 1 0 0) ∷
+    []
+
+shop-pieces : allTold pieces ≡ true
+unfolding pieces editedIn edited meetsAtEnd standingAt standing verdict walked count cutFrom cutting walk classOf judged head operand operands declaration tokenAt typedPlaces entryOf rows holds
+shop-pieces = refl

@@ -1,0 +1,1 @@
+// The shop pieces of document 01, proved of the definitions.
