@@ -1,0 +1,99 @@
+/*
+ * Every entry from C, with arguments that a careful caller would not pass: null with length 0, odd lengths and
+ * alignments, places and lengths at the ends of their range. The answers are those of document 01.
+ */
+#include "../../include/santubeli.h"
+
+#include <stdbool.h>
+#include <stdio.h>
+#include <string.h>
+
+static unsigned passed, failed;
+
+static void expect(bool right, const char *what)
+{
+    if (right)
+        passed++;
+    else {
+        failed++;
+        printf("WRONG: %s\n", what);
+    }
+}
+
+static bool refused(struct santubeli_verdict v, uint32_t number, size_t position)
+{
+    return v.number == number && v.position == position && v.tokens == 0 && v.instructions == 0;
+}
+
+static bool accepted(struct santubeli_verdict v, size_t tokens, size_t instructions)
+{
+    return v.number == 0 && v.position == 0 && v.tokens == tokens && v.instructions == instructions;
+}
+
+static const uint32_t move[] = {0xFFFE0200, 0x02000001, 0x800F0000, 0xA0E40000, 0x0000FFFF};
+
+static void check_entries(void)
+{
+    static uint8_t bytes[4 * (SANTUBELI_MOST_TOKENS + 1) + 1];
+    static uint32_t tokens[SANTUBELI_MOST_TOKENS + 1];
+
+    expect(refused(santubeli_check(NULL, 0), SANTUBELI_LENGTH, 0), "no bytes, null");
+    expect(refused(santubeli_check_tokens(NULL, 0), SANTUBELI_LENGTH, 0), "no tokens, null");
+    expect(accepted(santubeli_check_tokens(move, 5), 5, 1), "mov r0, c0");
+    expect(refused(santubeli_check_tokens(move, 1), SANTUBELI_LENGTH, 0), "the version alone");
+    expect(refused(santubeli_check_tokens(move, 4), SANTUBELI_RUN_OUT, 4), "no END");
+    expect(refused(santubeli_check_tokens(move + 1, 4), SANTUBELI_VERSION, 0), "no version");
+
+    /* bytes need no alignment */
+    for (unsigned offset = 0; offset < 4; offset++) {
+        for (unsigned k = 0; k < 5; k++)
+            for (unsigned b = 0; b < 4; b++)
+                bytes[offset + 4 * k + b] = (uint8_t)(move[k] >> (8 * b));
+        expect(accepted(santubeli_check(bytes + offset, 20), 5, 1), "bytes at any address");
+        expect(refused(santubeli_check(bytes + offset, 19), SANTUBELI_LENGTH, 0), "19 bytes");
+    }
+
+    /* the longest stream, and one more */
+    for (size_t k = 0; k <= SANTUBELI_MOST_TOKENS; k++)
+        tokens[k] = 0;
+    tokens[0] = 0xFFFF0300;
+    tokens[SANTUBELI_MOST_TOKENS - 1] = 0x0000FFFF;
+    expect(accepted(santubeli_check_tokens(tokens, SANTUBELI_MOST_TOKENS), SANTUBELI_MOST_TOKENS, SANTUBELI_MOST_TOKENS - 2),
+           "16,384 tokens");
+    expect(refused(santubeli_check_tokens(tokens, SANTUBELI_MOST_TOKENS + 1), SANTUBELI_LENGTH, 0), "16,385 tokens");
+    memcpy(bytes, tokens, 4 * SANTUBELI_MOST_TOKENS);
+    expect(accepted(santubeli_check(bytes, 4 * SANTUBELI_MOST_TOKENS), SANTUBELI_MOST_TOKENS, SANTUBELI_MOST_TOKENS - 2),
+           "65,536 bytes");
+    expect(refused(santubeli_check(bytes, 4 * SANTUBELI_MOST_TOKENS + 1), SANTUBELI_LENGTH, 0), "65,537 bytes");
+}
+
+static bool unread(struct santubeli_reading r, uint32_t number, size_t position)
+{
+    static const struct santubeli_record none;
+    return r.number == number && r.position == position && r.next == 0 && memcmp(&r.record, &none, sizeof none) == 0;
+}
+
+static void read_entries(void)
+{
+    struct santubeli_reading r = santubeli_read(0xFFFE0200, move, 5, 1);
+    expect(r.number == 0 && r.position == 0 && r.next == 4, "reading mov");
+    expect(r.record.opcode == 1 && r.record.operands[0].mask == 0xF && r.record.operands[1].type == 2
+               && r.record.operands[1].swizzle == 0xE4,
+           "the record of mov r0, c0");
+    r = santubeli_read(0xFFFE0200, move + 1, 3, 0);
+    expect(r.number == 0 && r.next == 3, "place 0 is lawful");
+    r = santubeli_read(0xFFFE0200, move, 5, 4);
+    expect(r.number == 0 && r.next == 5 && r.record.opcode == 0xFFFF, "END has a record");
+    expect(unread(santubeli_read(0xFFFE0200, NULL, 0, 0), SANTUBELI_RUN_OUT, 0), "an empty slice");
+    expect(unread(santubeli_read(0xFFFE0200, move, 5, SIZE_MAX), SANTUBELI_RUN_OUT, 5), "a place far past the end");
+    expect(unread(santubeli_read(0, move, 5, 1), SANTUBELI_VERSION, 0), "no version");
+    expect(unread(santubeli_read(0xFFFE0200, move, 5, 2), SANTUBELI_BITS, 2), "a place inside an instruction: 800F0000 is a NOP with bits");
+}
+
+int main(void)
+{
+    check_entries();
+    read_entries();
+    printf("%u passed, %u failed\n", passed, failed);
+    return failed != 0;
+}
