@@ -16,7 +16,7 @@ use Rattle.paper.specs.declared.Verdict.the-variants.{Accepted, Refused}
 use Rattle.blocks.proofs.WalkIsGrammar.{accepts, accepted}
 use Rattle.checking.specs.Accepted.{Grammatical}
 use Rattle.checking.proofs.Whole.{verdict-length, verdict-version, verdict-walked}
-use Rattle.checking.proofs.OneAnswer.{told-unique}
+use Rattle.paper.proofs.OneToOne.{same-verdict}
 
 unlike : {A : Type 0} {r : Refusal} {n : ℕ} → Refused r ≡ Accepted n → A
 unlike e = let z : _≡_ {A = ℕ} 0 1 = cc in absurd (omega arith)
@@ -57,7 +57,7 @@ module _ (stream : List ℕ) (n : ℕ) where
 
   -- the same of what a check tells
   pub told-is-grammar : checked stream ≡ told (Accepted n) → Grammatical stream n
-  told-is-grammar e = accepted-is-grammar (told-unique (verdict stream) (Accepted n) e)
+  told-is-grammar e = accepted-is-grammar (same-verdict (verdict stream) (Accepted n) e)
 
   pub grammar-is-told : Grammatical stream n → checked stream ≡ told (Accepted n)
   grammar-is-told g = ap told (grammar-is-accepted g)

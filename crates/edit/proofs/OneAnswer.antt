@@ -2,9 +2,7 @@
 use Prim.Native.Nat.{ℕ}
 use mathlib.Core.Path.{_≡_, ap, sym, _∙_}
 use mathlib.Core.List.{List}
-use Rattle.paper.specs.Numbers.{refusal}
-use Rattle.paper.specs.declared.Reason.{Reason}
-use Rattle.paper.proofs.OneToOne.{same-reason, no-reason-zero}
+use Rattle.paper.proofs.OneToOne.{same-refusal, no-reason-zero}
 use Rattle.edit.specs.declared.Edited.{Edited}
 use Rattle.edit.specs.declared.Edited.the-variants.{Joined, Accepted, Refused}
 use Rattle.edit.specs.Edit.{ToldEdit, toldEdit, editedIn, bufferAfter}
@@ -21,8 +19,7 @@ same-edit (Accepted n) (Refused r) e = absurd (no-reason-zero (r .reason) (ap (�
 same-edit (Refused a) (Joined m) e = absurd (no-reason-zero (a .reason) (sym (ap (λ (t : ToldEdit). t .number) e)))
 same-edit (Refused a) (Accepted m) e = absurd (no-reason-zero (a .reason) (sym (ap (λ (t : ToldEdit). t .number) e)))
 same-edit (Refused a) (Refused b) e =
-    ap (λ (x : Reason). Refused (refusal x (a .position))) (same-reason (a .reason) (b .reason) (ap (λ (t : ToldEdit). t .number) e))
-    ∙ ap (λ (p : ℕ). Refused (refusal (b .reason) p)) (ap (λ (t : ToldEdit). t .position) e)
+    ap Refused (same-refusal a b (ap (λ (t : ToldEdit). t .number) e) (ap (λ (t : ToldEdit). t .position) e))
 
 -- The promise of an edit, that it tells the definition's answer and leaves the definition's buffer, leaves one answer and one content:
 -- two answers with contents that both keep it are equal.

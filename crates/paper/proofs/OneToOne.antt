@@ -59,7 +59,7 @@ some RECORD = omega arith
 pub no-reason-zero : (r : Reason) → 0 ≡ numberOf r → ⊥
 no-reason-zero r e = omega (arith, some r)
 
-same-refusal : (a b : Refusal) → numberOf (a .reason) ≡ numberOf (b .reason) → a .position ≡ b .position → a ≡ b
+pub same-refusal : (a b : Refusal) → numberOf (a .reason) ≡ numberOf (b .reason) → a .position ≡ b .position → a ≡ b
 same-refusal a b number position =
     ap (λ (x : Reason). refusal x (a .position)) (same-reason (a .reason) (b .reason) number)
     ∙ ap (refusal (b .reason)) position
