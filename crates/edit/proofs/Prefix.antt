@@ -17,24 +17,24 @@ use Rattle.edit.specs.Edit.{splice}
 use Rattle.edit.proofs.Standing.{Comes, stays, passes, ahead, comes-standing, standing-comes}
 
 -- a part in the middle of a list
-part : (p n : ℕ) (l : List ℕ) → drop p (take (p + n) l) ≡ take n (drop p l)
+pub part : (p n : ℕ) (l : List ℕ) → drop p (take (p + n) l) ≡ take n (drop p l)
 part zero n l = rw zero-add
 part (suc p) n [] = rw (take-nil {A = ℕ} (suc p + n), take-nil {A = ℕ} n)
 part (suc p) n (x ∷ l) = rw suc-add (part p n l)
 
 -- lists with one beginning have the same parts in it
-same-part : (s t : List ℕ) (q p n : ℕ) → take q s ≡ take q t → p + n ≤ q → take n (drop p s) ≡ take n (drop p t)
+pub same-part : (s t : List ℕ) (q p n : ℕ) → take q s ≡ take q t → p + n ≤ q → take n (drop p s) ≡ take n (drop p t)
 same-part s t q p n e h =
     sym (part p n s)
     ∙ ap (drop p) (sym (take-take (p + n) q s h) ∙ ap (take (p + n)) e ∙ take-take (p + n) q t h)
     ∙ part p n t
 
 -- and a position in it lies in both
-same-length : (s t : List ℕ) (q p : ℕ) → take q s ≡ take q t → q ≤ length s → p < q → p < length t
+pub same-length : (s t : List ℕ) (q p : ℕ) → take q s ≡ take q t → q ≤ length s → p < q → p < length t
 same-length s t q p e h l = omega (arith, length-take q s, length-take q t, ap length e)
 
 -- a good instruction is good wherever its own tokens stand
-same-good : (v : Version) (size : ℕ) (class : Class) (a b : List ℕ) → take (suc size) a ≡ take (suc size) b →
+pub same-good : (v : Version) (size : ℕ) (class : Class) (a b : List ℕ) → take (suc size) a ≡ take (suc size) b →
     judged v a ≡ Good size class → judged v b ≡ Good size class
 same-good v size class a b e j =
     ap (judged v) (sym (take-append-drop (suc size) b) ∙ ap (λ (l : List ℕ). l ++ drop (suc size) b) (sym e))

@@ -43,7 +43,7 @@ use Rattle.walk.proofs.Bounds.{judged-near, judged-in}
 
 -- what an instruction adds to a count
 
-counts-add : (c : Class) (a n : ℕ) → a + counts c n ≡ counts c a + n
+pub counts-add : (c : Class) (a n : ℕ) → a + counts c n ≡ counts c a + n
 counts-add (One Comment) a n = refl
 counts-add (One Plain) a n = omega arith
 counts-add (One Break) a n = omega arith
@@ -95,7 +95,7 @@ module _ (v : Version) (state : State) (first : ℕ) (fits : state .at < 2 ^ 64)
   step-claimed (declared size) rest = looked (leb size (length rest)) (declared size) size rest
   step-claimed (operation ps size) rest = looked (leb size (length rest)) (operation ps size) size rest
 
-step-judged : (v : Version) (s : List ℕ) (state : State) → state .at < length s → length s < 2 ^ 64 →
+pub step-judged : (v : Version) (s : List ℕ) (state : State) → state .at < length s → length s < 2 ^ 64 →
     stepAt v s state ≡ onJudged (judged v (drop (state .at) s)) state
 unfolding stepAt
 step-judged v s state h fits =
