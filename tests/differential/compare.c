@@ -176,6 +176,88 @@ static void read_all(struct generate_source *source, unsigned rounds)
     generate_systematic(read_one, NULL);
 }
 
+/* ---- Write ------------------------------------------------------------ */
+
+static void write_record(struct generate_source *source, uint32_t version, const struct second_record *record)
+{
+    static uint32_t body[GENERATE_ROOM], mine[256], theirs[256];
+    static uint32_t large_mine[GENERATE_ROOM], large_theirs[GENERATE_ROOM];
+    const size_t body_length = generate_body_length(source, record);
+    const bool large = body_length > 200;
+    uint32_t *a = large ? large_mine : mine, *b = large ? large_theirs : theirs;
+    const size_t length = large ? GENERATE_ROOM : generate_below(source, 257);
+    const size_t at = generate_below(source, 8) == 0 ? length + generate_below(source, 3) : generate_below(source, length + 1);
+    struct santubeli_record same;
+
+    for (size_t k = 0; k < length; k++)
+        a[k] = b[k] = 0xAAAA0000u + (uint32_t)k;
+    for (size_t k = 0; k < body_length; k++)
+        body[k] = 0xBBBB0000u + (uint32_t)k;
+    memcpy(&same, record, sizeof same);
+    const struct second_written expected = second_write(version, record, body, body_length, b, length, at);
+    const struct santubeli_written given = santubeli_write(version, same, body, body_length, a, length, at);
+    if (count(expected.number == given.number && expected.position == given.position && expected.next == given.next
+              && memcmp(a, b, length * sizeof *a) == 0))
+        printf("write of opcode %" PRIu32 ": second %" PRIu32 " next %" PRIu64 ", proved %" PRIu32 " next %zu\n", record->opcode,
+               expected.number, expected.next, given.number, given.next);
+}
+
+static void write_all(struct generate_source *source, unsigned rounds)
+{
+    for (unsigned round = 0; round < rounds; round++) {
+        const unsigned version = round % GENERATE_VERSIONS;
+        const struct second_record record = generate_record(source, version);
+        write_record(source, generate_version(version), &record);
+        write_record(source, generate_version((version + 1) % GENERATE_VERSIONS), &record);
+        const struct second_record disturbed =
+            generate_disturbed(&record, (unsigned)generate_below(source, GENERATE_DISTURBANCES));
+        write_record(source, generate_version(version), &disturbed);
+        const struct second_record any = generate_random_record(source);
+        write_record(source, generate_chance(source, 1, 50) ? generate_u32(source) : generate_version(version), &any);
+    }
+    /* every field of one record of each version disturbed in every way */
+    for (unsigned version = 0; version < GENERATE_VERSIONS; version++)
+        for (unsigned one = 0; one < 4; one++) {
+            const struct second_record record = generate_record(source, version);
+            for (unsigned which = 0; which < GENERATE_DISTURBANCES; which++) {
+                const struct second_record disturbed = generate_disturbed(&record, which);
+                write_record(source, generate_version(version), &disturbed);
+            }
+        }
+}
+
+/* ---- Edit ------------------------------------------------------------- */
+
+static void edit_all(struct generate_source *source, unsigned rounds)
+{
+    static struct generate_edit edit;
+    static uint32_t mine[GENERATE_ROOM], theirs[GENERATE_ROOM];
+    for (unsigned round = 0; round < rounds; round++) {
+        generate_edit(source, round % GENERATE_VERSIONS, round % 64 == 0 ? GENERATE_MAX : 120, &edit);
+        if (edit.m > GENERATE_ROOM)
+            continue; /* such a run is never read, but a slice of it cannot be lent */
+        memcpy(mine, edit.buffer, edit.buffer_length * sizeof *mine);
+        memcpy(theirs, edit.buffer, edit.buffer_length * sizeof *theirs);
+        const struct second_verdict old = second_check(theirs, edit.n <= edit.buffer_length ? edit.n : 0);
+        const struct second_edited expected =
+            second_edit(theirs, edit.buffer_length, edit.n, edit.i, edit.j, edit.run, edit.m);
+        const struct santubeli_edited given =
+            santubeli_edit(mine, edit.buffer_length, edit.n, edit.i, edit.j, edit.run, edit.m);
+        bool same = expected.number == given.number && expected.position == given.position && expected.joined == given.joined
+            && expected.length == given.length && memcmp(mine, theirs, edit.buffer_length * sizeof *mine) == 0;
+        /* a fresh check of the splice: a yes of an accepted stream is a yes */
+        if (same && given.number == 0 && old.number == 0)
+            same = santubeli_check_tokens(mine, given.length).number == 0;
+        if (count(same)) {
+            show("edit", edit.buffer, edit.n <= edit.buffer_length ? edit.n : 0);
+            printf("  n %zu i %zu j %zu m %zu room %zu: second %" PRIu32 "@%" PRIu32 " joined %" PRIu32 " length %" PRIu64
+                   ", proved %" PRIu32 "@%zu joined %" PRIu32 " length %zu\n",
+                   edit.n, edit.i, edit.j, edit.m, edit.buffer_length, expected.number, expected.position, expected.joined,
+                   expected.length, given.number, given.position, given.joined, given.length);
+        }
+    }
+}
+
 int main(int argc, char **argv)
 {
     const uint64_t seed = argc > 1 ? strtoull(argv[1], NULL, 0) : 1;
@@ -184,6 +266,8 @@ int main(int argc, char **argv)
 
     check_all(&source, rounds);
     read_all(&source, rounds / 4);
+    write_all(&source, rounds);
+    edit_all(&source, 2 * rounds);
     printf("%" PRIu64 " passed, %" PRIu64 " failed\n", passed, failed);
     return failed != 0;
 }

@@ -7,6 +7,12 @@ use Rattle.records.specs.declared.Record.{Record}
 use Rattle.reader.specs.declared.Answer.{Answer as Answered}
 use Rattle.reader.specs.declared.Answer.the-variants.{Got, Refused as Unread}
 use Rattle.reader.specs.declared.Reading.{Reading}
+use Rattle.edit.specs.declared.Edited.{Edited}
+use Rattle.edit.specs.declared.Edited.the-variants.{Joined, Accepted as Edited-in-full, Refused as Unedited}
+use Rattle.santubeli.specs.declared.EditAnswer.{EditAnswer}
+use Rattle.writing.specs.declared.Written.{Written}
+use Rattle.writing.specs.declared.Written.the-variants.{Wrote, Refused as Unwritten}
+use Rattle.santubeli.specs.declared.WriteAnswer.{WriteAnswer}
 use Rattle.santubeli.specs.declared.Answer.{Answer}
 use Rattle.santubeli.specs.declared.ReadAnswer.{ReadAnswer}
 
@@ -22,3 +28,14 @@ readAnswer (Unread r) instruction = record { number = numberOf (r .reason); posi
 
 abbrev pub readAnswerOf : Reading → ReadAnswer
 readAnswerOf reading = readAnswer (reading .answer) (reading .instruction)
+
+-- an edit: both yeses have number 0 and give the new length, and joined tells them apart; a refusal has length 0
+abbrev pub editAnswerOf : Edited → EditAnswer
+editAnswerOf (Joined n) = record { number = 0; position = 0; joined = 1; length = n }
+editAnswerOf (Edited-in-full n) = record { number = 0; position = 0; joined = 0; length = n }
+editAnswerOf (Unedited r) = record { number = numberOf (r .reason); position = r .position; joined = 0; length = 0 }
+
+-- a writing: the next place of a yes; a refusal has next place 0
+abbrev pub writeAnswerOf : Written → WriteAnswer
+writeAnswerOf (Wrote next) = record { number = 0; position = 0; next = next }
+writeAnswerOf (Unwritten r) = record { number = numberOf (r .reason); position = r .position; next = 0 }

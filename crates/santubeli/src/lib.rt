@@ -5,9 +5,13 @@ ghost use lib.ListN.{length};
 ghost use Rattle.paper.specs.Stream.{verdict};
 ghost use Rattle.bytes.specs.Bytes.{bytesVerdict};
 ghost use Rattle.reader.specs.Reading.{reading};
-ghost use Rattle.santubeli.specs.Entries.{answerOf, readAnswerOf};
+ghost use Rattle.santubeli.specs.Entries.{answerOf, readAnswerOf, editAnswerOf, writeAnswerOf};
+ghost use Rattle.writing.specs.Writing.{writing, bufferAfter as writtenBuffer};
+ghost use Rattle.edit.specs.Edit.{editedIn, bufferAfter};
+use edit::Edited;
 use paper::Verdict;
 use records::Record;
+use writing::Written;
 
 #[repr(C)]
 pub struct Answer {
@@ -87,4 +91,97 @@ pub extern "C" fn santubeli_read(version: u32, tokens: &[u32], at: usize) -> Rea
             }
         }
     }
+}
+
+#[repr(C)]
+pub struct EditAnswer {
+    pub number: u32,
+    pub position: usize,
+    pub joined: u32,
+    pub length: usize,
+}
+
+fn edit_answer_of(edited: Edited) -> EditAnswer
+    ensures { λ r. ⌜ r ≡ editAnswerOf edited ⌝ }
+{
+    match edited {
+        Edited::Joined(length) => EditAnswer {
+            number: 0,
+            position: 0,
+            joined: 1,
+            length,
+        },
+        Edited::Accepted(length) => EditAnswer {
+            number: 0,
+            position: 0,
+            joined: 0,
+            length,
+        },
+        Edited::Refused(refusal) => {
+            let reason = refusal.reason;
+            EditAnswer {
+                number: paper::number_of(reason),
+                position: refusal.position,
+                joined: 0,
+                length: 0,
+            }
+        }
+    }
+}
+
+#[no_mangle]
+pub extern "C" fn santubeli_edit(
+    buffer: &mut [u32],
+    n: usize,
+    i: usize,
+    j: usize,
+    run: &[u32],
+) -> EditAnswer
+    ensures told { λ r. ⌜ r ≡ editAnswerOf (editedIn (now (buffer .entry)) n i j (now (run .entry))) ⌝ }
+    ensures held { λ r. ⌜ now (buffer .exit) ≡ bufferAfter (now (buffer .entry)) n i j (now (run .entry)) ⌝ }
+{
+    let edited = editing::edit(buffer, n, i, j, run);
+    edit_answer_of(edited)
+}
+
+#[repr(C)]
+pub struct WriteAnswer {
+    pub number: u32,
+    pub position: usize,
+    pub next: usize,
+}
+
+fn write_answer_of(written: Written) -> WriteAnswer
+    ensures { λ r. ⌜ r ≡ writeAnswerOf written ⌝ }
+{
+    match written {
+        Written::Wrote(next) => WriteAnswer {
+            number: 0,
+            position: 0,
+            next,
+        },
+        Written::Refused(refusal) => {
+            let reason = refusal.reason;
+            WriteAnswer {
+                number: paper::number_of(reason),
+                position: refusal.position,
+                next: 0,
+            }
+        }
+    }
+}
+
+#[no_mangle]
+pub extern "C" fn santubeli_write(
+    version: u32,
+    instruction: Record,
+    body: &[u32],
+    buffer: &mut [u32],
+    at: usize,
+) -> WriteAnswer
+    ensures told { λ r. ⌜ r ≡ writeAnswerOf (writing version instruction (now (body .entry)) (now (buffer .entry)) at) ⌝ }
+    ensures held { λ r. ⌜ now (buffer .exit) ≡ writtenBuffer version instruction (now (body .entry)) (now (buffer .entry)) at ⌝ }
+{
+    let written = writing::write(version, instruction, body, buffer, at);
+    write_answer_of(written)
 }

@@ -54,7 +54,7 @@ free-other S = refl
 free-other R = refl
 free-other U = refl
 
-row-unpredicated : (opcode operand : ℕ) (letters : List Letter) → unpredicated (placesFrom opcode operand letters) ≡ true
+pub row-unpredicated : (opcode operand : ℕ) (letters : List Letter) → unpredicated (placesFrom opcode operand letters) ≡ true
 unfolding typedPlaces noneIn
 row-unpredicated opcode operand [] = refl
 row-unpredicated opcode operand (letter ∷ letters) =

@@ -1,0 +1,4 @@
+-- The code of the edit, by the definitions of crate edit.
+pub mod Steps
+pub mod Found
+pub mod Answers

@@ -1,0 +1,3 @@
+-- Tokens moved in a buffer.
+pub mod Moving
+pub mod Answers

@@ -1,0 +1,2 @@
+-- A run in place of some tokens of a buffer.
+pub mod Splicing

@@ -1,0 +1,133 @@
+-- Demand 2: the records of a cutting, written in order with each comment's body lent back, give the tokens again.
+use mathlib.Core.Path.{_≡_, refl, sym, ap, _∙_}
+use mathlib.Core.List.{List, [], _∷_, _++_, append-nil}
+use Prim.Native.Nat.{ℕ, zero, suc, _+_, _≤_}
+use native.Mathlib.Omega.{arith}
+use lib.Dec.{leb}
+use lib.ListN.{length, drop, getD, length-append, length-drop, drop-of-length-le}
+use lib.Seq.{take-length, length-take-le}
+use borrow.Author.Tests.{leb-true}
+use Rattle.paper.specs.Versions.{tokenOf}
+use Rattle.paper.specs.InstructionToken.{opcodeOf}
+use Rattle.paper.specs.Instruction.{Head, broken, end, comment, dcl, operation, head, onHead, judged}
+use Rattle.paper.specs.Blocks.{classOf}
+use Rattle.paper.specs.Stream.{mostTokens, verdict}
+use Rattle.paper.specs.declared.Version.{Version}
+use Rattle.paper.specs.declared.Class.{Class}
+use Rattle.paper.specs.declared.Class.the-variants.{One}
+use Rattle.paper.specs.declared.Single.the-variants.{Comment}
+use Rattle.paper.specs.declared.Judged.the-variants.{Good as Lawful}
+use Rattle.paper.specs.declared.Verdict.the-variants.{Accepted}
+use Rattle.paper.proofs.Below.{both-right}
+use Rattle.cutting.specs.Cuttings.{joined, Alone, Chunks, last, next, Cutting}
+use Rattle.cutting.proofs.AcceptedIsACutting.{accepted-is-a-cutting}
+use Rattle.cutting.proofs.OwnTokens.{within-good}
+use Rattle.records.specs.Record.{recordOn, recordOf}
+use Rattle.records.proofs.Heads.{is-comment, is-dcl, is-operation}
+use Rattle.writer.specs.Tokens.{Words, tokensOf, bodyOn, bodyOf}
+use Rattle.writer.proofs.Operands.{words-drop}
+use Rattle.writer.proofs.WrittenBack.{written-back}
+use Rattle.writing.specs.declared.Written.the-variants.{Wrote}
+use Rattle.writing.specs.Buffer.{pasted, onFront}
+use Rattle.writing.specs.Writing.{Yielded, bodyLength, writing, bufferAfter}
+use Rattle.writing.specs.InOrder.{piecesOf, filled, writingAll}
+use Rattle.writing.proofs.Paste.{pasted-on, pasted-front, length-pasted}
+use Rattle.writing.proofs.Readings.{reads-own}
+use Rattle.writing.proofs.Answers.{version-named}
+use Rattle.writing.proofs.Exactly.{is-written}
+
+-- the body that was read is as long as the record says
+module _ (v : Version) (first : ℕ) (rest : List ℕ) {size : ℕ} {class : Class} where
+  body-by : (h : Head) (c : Class) → head v first ≡ h → onHead v h c rest ≡ Lawful size class →
+      length (bodyOn h rest) ≡ bodyLength (recordOn h first rest)
+  body-by (broken reason) c e j = refl
+  body-by end c e j = refl
+  body-by (comment n) c e j = length-take-le n rest (within-good size class n rest (Lawful n (One Comment)) j .0) ∙ sym (is-comment v first n e .stated)
+  body-by (dcl n) c e j = rw (is-dcl v first n e .found .no-comment)
+  body-by (operation row n) c e j = rw (is-operation v first row n e .found .no-comment)
+
+body-agrees : (v : Version) (first : ℕ) (rest : List ℕ) {size : ℕ} {class : Class} → judged v (first ∷ rest) ≡ Lawful size class →
+    length (bodyOf v (first ∷ rest)) ≡ bodyLength (recordOf v (first ∷ rest))
+unfolding judged recordOf bodyOf
+body-agrees v first rest j = body-by v first rest (head v first) (classOf (opcodeOf first)) refl j
+
+-- one chunk
+module _ (v : Version) (first : ℕ) (rest : List ℕ) {class : Class} (words : Words (first ∷ rest)) (few : suc (length rest) ≤ mostTokens)
+    (alone : Alone v first rest class) where
+  chunk-back : tokensOf v (recordOf v (first ∷ rest)) (bodyOf v (first ∷ rest)) ≡ first ∷ rest
+  chunk-back = written-back v (first ∷ rest) words alone ∙ take-length (first ∷ rest)
+
+  chunk-yielded : Yielded v (recordOf v (first ∷ rest))
+  chunk-yielded =
+      record {
+        tokens = first ∷ rest;
+        at = 0;
+        next = 0 + length rest + 1;
+        are-words = words;
+        read = reads-own v (first ∷ rest) few (omega arith) alone;
+      }
+
+  chunk-written : (buffer : List ℕ) (at : ℕ) → at + suc (length rest) ≤ length buffer →
+      (writing (tokenOf v) (recordOf v (first ∷ rest)) (bodyOf v (first ∷ rest)) buffer at ≡ Wrote (at + suc (length rest)))
+      × (bufferAfter (tokenOf v) (recordOf v (first ∷ rest)) (bodyOf v (first ∷ rest)) buffer at ≡ pasted buffer at (first ∷ rest))
+  chunk-written buffer at h =
+      rw chunk-back at
+      (is-written v (recordOf v (first ∷ rest)) (bodyOf v (first ∷ rest)) buffer at chunk-yielded (body-agrees v first rest alone)
+      (rw chunk-back h))
+
+words-front : (a b : List ℕ) → Words (a ++ b) → Words a
+unfolding Words
+words-front [] b words k = omega arith
+words-front (x ∷ a) b words zero = words 0
+words-front (x ∷ a) b words (suc k) = words-front a b (λ j. words (suc j)) k
+
+words-behind : (a b : List ℕ) → Words (a ++ b) → Words b
+unfolding Words
+words-behind [] b words k = words k
+words-behind (x ∷ a) b words k = words-behind a b (λ j. words (suc j)) k
+
+-- all of them
+pub chunks-written-back : {v : Version} {chunks : List (List ℕ)} {classes : List Class} → Chunks v chunks classes → Words (joined chunks) → length (joined chunks) ≤ mostTokens →
+    (buffer : List ℕ) (at : ℕ) → at + length (joined chunks) ≤ length buffer →
+    writingAll (tokenOf v) (piecesOf v chunks) buffer at ≡ filled (pasted buffer at (joined chunks)) (at + length (joined chunks))
+unfolding writingAll
+chunks-written-back {v} (last {first} {rest} alone) words few buffer at h =
+    let same : rest ++ [] ≡ rest = append-nil rest in
+    let w = chunk-written v first rest (rw same at words) (rw same at few) alone buffer at (rw same at h) in
+    rw (w .0, w .1, same)
+chunks-written-back {v} (next {first} {rest} {class} {chunks} alone n later) words few buffer at h =
+    let long = length-append (first ∷ rest) (joined chunks) in
+    let w = chunk-written v first rest (words-front (first ∷ rest) (joined chunks) words) (omega arith) alone buffer at (omega arith) in
+    let room = length-pasted buffer (first ∷ rest) at (omega arith) in
+    let fits : at + suc (length rest) + length (joined chunks) ≤ length (pasted buffer at (first ∷ rest)) = rw room (omega arith) in
+    let all = chunks-written-back later (words-behind (first ∷ rest) (joined chunks) words) (omega arith) (pasted buffer at (first ∷ rest)) (at + suc (length rest)) fits in
+    let content = pasted-on buffer (first ∷ rest) (joined chunks) at (omega arith) in
+    let place : at + suc (length rest) + length (joined chunks) ≡ at + length ((first ∷ rest) ++ joined chunks) = omega arith in
+    rw (w .0, w .1) (all ∙ (ap (λ b. filled b (at + suc (length rest) + length (joined chunks))) content ∙ ap (filled (pasted buffer at ((first ∷ rest) ++ joined chunks))) place))
+
+whole : (buffer tokens : List ℕ) → length buffer ≡ length tokens → onFront buffer tokens ≡ tokens
+unfolding onFront
+whole buffer tokens e =
+    let short : length buffer ≤ length tokens = omega arith in
+    let none : drop (length tokens) buffer ≡ [] = drop-of-length-le buffer short in
+    rw none (append-nil tokens)
+
+-- into a buffer of just their length: the tokens again
+pub stream-written-back : (v : Version) (tokens : List ℕ) (chunks : List (List ℕ)) (classes : List Class) → Cutting v tokens chunks classes → Words tokens →
+    length tokens ≤ mostTokens → (buffer : List ℕ) → length buffer ≡ length tokens →
+    writingAll (tokenOf v) (piecesOf v chunks) buffer 0 ≡ filled tokens (length tokens)
+stream-written-back v tokens chunks classes (cut, is) words few buffer long =
+    let all = chunks-written-back cut (rw is words) (rw is few) buffer 0 (rw is (omega arith)) in
+    let at-end : 0 + length tokens ≡ length tokens = omega arith in
+    rw (is, pasted-front buffer tokens, at-end) at all ∙ ap (λ b. filled b (length tokens)) (whole buffer tokens long)
+
+-- an accepted stream: the records of its cutting, in order, give the tokens behind its version again
+pub accepted-written-back : (s : List ℕ) (n : ℕ) (accept : verdict s ≡ Accepted n) → Words s → (buffer : List ℕ) → length buffer ≡ length (drop 1 s) →
+    writingAll (getD s 0 0) (piecesOf (accepted-is-a-cutting s n accept .version) (accepted-is-a-cutting s n accept .chunks)) buffer 0
+    ≡ filled (drop 1 s) (length (drop 1 s))
+accepted-written-back s n accept words buffer long =
+    let l = accepted-is-a-cutting s n accept in
+    let few : length s ≤ mostTokens = leb-true (length s) mostTokens (both-right (leb 2 (length s)) (leb (length s) mostTokens) (l .isLong)) in
+    let few-behind : length (drop 1 s) ≤ mostTokens = omega (arith, length-drop 1 s) in
+    rw (version-named (getD s 0 0) (l .version) (l .isNamed))
+    (stream-written-back (l .version) (drop 1 s) (l .chunks) (l .classes) (l .isCutting) (words-drop 1 s words) few-behind buffer long)
