@@ -90,10 +90,73 @@ static void read_entries(void)
     expect(unread(santubeli_read(0xFFFE0200, move, 5, 2), SANTUBELI_BITS, 2), "a place inside an instruction: 800F0000 is a NOP with bits");
 }
 
+static void write_entries(void)
+{
+    uint32_t buffer[6] = {1, 2, 3, 4, 5, 6};
+    const uint32_t before[6] = {1, 2, 3, 4, 5, 6};
+    struct santubeli_record record = santubeli_read(0xFFFE0200, move, 5, 1).record;
+
+    struct santubeli_written w = santubeli_write(0xFFFE0200, record, NULL, 0, buffer, 6, 4);
+    expect(w.number == SANTUBELI_ROOM && w.next == 0 && memcmp(buffer, before, sizeof buffer) == 0, "two places for three tokens");
+    w = santubeli_write(0xFFFE0200, record, NULL, 0, buffer, 6, SIZE_MAX);
+    expect(w.number == SANTUBELI_ROOM && w.next == 0, "a place far past the end");
+    w = santubeli_write(0xFFFE0200, record, NULL, 0, NULL, 0, 0);
+    expect(w.number == SANTUBELI_ROOM && w.next == 0, "no buffer");
+    w = santubeli_write(7, record, NULL, 0, buffer, 6, 1);
+    expect(w.number == SANTUBELI_VERSION && w.next == 0, "no version to write for");
+    w = santubeli_write(0xFFFE0200, record, move, 1, buffer, 6, 1);
+    expect(w.number == SANTUBELI_RECORD && w.next == 0, "a body for an instruction");
+    memset(&record, 0xFF, sizeof record);
+    w = santubeli_write(0xFFFE0200, record, NULL, 0, buffer, 6, 1);
+    expect(w.number == SANTUBELI_RECORD && memcmp(buffer, before, sizeof buffer) == 0, "a wild record");
+    record = santubeli_read(0xFFFE0200, move, 5, 1).record;
+    w = santubeli_write(0xFFFE0200, record, NULL, 0, buffer, 6, 1);
+    expect(w.number == 0 && w.position == 0 && w.next == 4 && buffer[0] == 1 && buffer[1] == move[1] && buffer[2] == move[2]
+               && buffer[3] == move[3] && buffer[4] == 5 && buffer[5] == 6,
+           "mov written behind the first token, and nothing else");
+}
+
+static bool unedited(struct santubeli_edited e, uint32_t number, size_t position)
+{
+    return e.number == number && e.position == position && e.joined == 0 && e.length == 0;
+}
+
+/* Document 01's stream E: if b0, else, endif. */
+static const uint32_t branch[] = {0xFFFE0200, 0x01000028, 0xE0E40800, 0x0000002A, 0x0000002B, 0x0000FFFF};
+
+static void edit_entries(void)
+{
+    uint32_t buffer[8];
+    const uint32_t otherwise[] = {0x0000002A}, end[] = {0x0000FFFF};
+
+    memcpy(buffer, branch, sizeof branch);
+    buffer[6] = buffer[7] = 0xDEAD;
+    expect(unedited(santubeli_edit(buffer, 8, 6, 2, 3, NULL, 0), SANTUBELI_PLACE, 0), "a place inside an instruction");
+    expect(unedited(santubeli_edit(buffer, 8, 6, 4, 3, NULL, 0), SANTUBELI_PLACE, 0), "i behind j");
+    expect(unedited(santubeli_edit(buffer, 8, 6, 0, 0, NULL, 0), SANTUBELI_PLACE, 0), "the version is no boundary");
+    expect(unedited(santubeli_edit(buffer, 8, 6, 6, 6, NULL, 0), SANTUBELI_PLACE, 0), "the token count is none");
+    expect(unedited(santubeli_edit(buffer, 8, 6, SIZE_MAX, SIZE_MAX, NULL, 0), SANTUBELI_PLACE, 0), "the largest places");
+    expect(unedited(santubeli_edit(buffer, 8, SIZE_MAX, 1, 1, NULL, 0), SANTUBELI_LENGTH, 0), "the largest length");
+    expect(unedited(santubeli_edit(NULL, 0, 0, 0, 0, NULL, 0), SANTUBELI_LENGTH, 0), "no buffer");
+    expect(unedited(santubeli_edit(buffer, 6, 6, 3, 3, end, 1), SANTUBELI_ROOM, 0), "no room for one token more");
+    expect(unedited(santubeli_edit(buffer, 8, 6, 3, 3, end, 1), SANTUBELI_BLOCK, 3), "END inside the IF");
+    expect(unedited(santubeli_edit(buffer, 8, 6, 1, 3, NULL, 0), SANTUBELI_BLOCK, 1), "without its IF");
+    expect(memcmp(buffer, branch, sizeof branch) == 0 && buffer[6] == 0xDEAD, "refusals write nothing");
+
+    struct santubeli_edited e = santubeli_edit(buffer, 8, 6, 3, 4, otherwise, 1);
+    expect(e.number == 0 && e.joined == 1 && e.length == 6 && memcmp(buffer, branch, sizeof branch) == 0, "ELSE for ELSE is JOINED");
+    e = santubeli_edit(buffer, 8, 6, 3, 4, NULL, 0);
+    expect(e.number == 0 && e.joined == 0 && e.length == 5, "without its ELSE: ACCEPTED");
+    expect(buffer[3] == 0x0000002B && buffer[4] == 0x0000FFFF && buffer[5] == 0x0000FFFF && buffer[6] == 0xDEAD,
+           "the splice, and what lies past it as before");
+}
+
 int main(void)
 {
     check_entries();
     read_entries();
+    write_entries();
+    edit_entries();
     printf("%u passed, %u failed\n", passed, failed);
     return failed != 0;
 }
