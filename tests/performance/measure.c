@@ -65,6 +65,92 @@ __attribute__((noinline)) size_t measured_second_reads(void)
     return count;
 }
 
+/* An instruction near a place is replaced by itself. */
+static size_t edit_from, edit_to;
+static uint32_t edit_run[GENERATE_INSTRUCTION];
+static uint32_t buffer[GENERATE_ROOM];
+
+__attribute__((noinline)) struct santubeli_edited measured_edit_front(void)
+{
+    return santubeli_edit(buffer, length, length, edit_from, edit_to, edit_run, edit_to - edit_from);
+}
+
+__attribute__((noinline)) struct santubeli_edited measured_edit_middle(void)
+{
+    return santubeli_edit(buffer, length, length, edit_from, edit_to, edit_run, edit_to - edit_from);
+}
+
+__attribute__((noinline)) struct santubeli_edited measured_edit_end(void)
+{
+    return santubeli_edit(buffer, length, length, edit_from, edit_to, edit_run, edit_to - edit_from);
+}
+
+__attribute__((noinline)) size_t measured_proved_writes(const struct santubeli_record *records, size_t count)
+{
+    size_t at = 1;
+    for (size_t k = 0; k < count; k++) {
+        const struct santubeli_written one = santubeli_write(tokens[0], records[k], NULL, 0, buffer, length, at);
+        if (one.number == 0)
+            at = one.next;
+    }
+    return at;
+}
+
+__attribute__((noinline)) size_t measured_second_writes(const struct santubeli_record *records, size_t count)
+{
+    size_t at = 1;
+    for (size_t k = 0; k < count; k++) {
+        struct second_record same;
+        memcpy(&same, &records[k], sizeof same);
+        const struct second_written one = second_write(tokens[0], &same, NULL, 0, buffer, length, at);
+        if (one.number == 0)
+            at = one.next;
+    }
+    return at;
+}
+
+/* The first short instruction from a place on. */
+static void choose(size_t from)
+{
+    for (size_t at = 1; at < length;) {
+        const struct second_read one = second_read(tokens[0], tokens, length, at);
+        if (one.number != 0)
+            break;
+        if (at >= from && one.next - at <= GENERATE_INSTRUCTION) {
+            edit_from = at;
+            edit_to = one.next;
+            memcpy(edit_run, tokens + at, (edit_to - edit_from) * sizeof *tokens);
+            memcpy(buffer, tokens, length * sizeof *tokens);
+            return;
+        }
+        at = one.next;
+    }
+}
+
+static void write_and_edit(void)
+{
+    static struct santubeli_record records[GENERATE_MAX];
+    size_t count = 0;
+    for (size_t at = 1; at < length;) {
+        const struct santubeli_reading one = santubeli_read(tokens[0], tokens, length, at);
+        if (one.number != 0)
+            break;
+        if (one.record.opcode != 0xFFFE)
+            records[count++] = one.record;
+        at = one.next;
+    }
+    if (measured_proved_writes(records, count) != measured_second_writes(records, count))
+        printf("the two differ\n");
+    choose(100);
+    const struct santubeli_edited front = measured_edit_front();
+    choose(length / 2);
+    const struct santubeli_edited middle = measured_edit_middle();
+    choose(length - 100);
+    const struct santubeli_edited end = measured_edit_end();
+    if (front.joined + middle.joined + end.joined != 3)
+        printf("an edit that puts back what was there is JOINED\n");
+}
+
 static size_t run(void)
 {
     for (size_t k = 0; k < length; k++)
@@ -86,6 +172,7 @@ int main(int argc, char **argv)
         length = strtoul(argv[2], NULL, 0);
         generate_valid(&source, (unsigned)strtoul(argv[3], NULL, 0), tokens, length);
         total = run();
+        write_and_edit();
     } else {
         for (int k = 1; k < argc; k++) {
             FILE *file = fopen(argv[k], "rb");
