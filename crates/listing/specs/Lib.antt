@@ -1,0 +1,2 @@
+-- A stream read from boundary to boundary.
+pub mod Listing

@@ -1,0 +1,36 @@
+-- The records that the reader gives, each from where the one before it ended.
+use Prim.Native.Nat.{ℕ, zero, suc}
+use mathlib.Core.Bool.{Bool, _||_}
+use mathlib.Core.List.{List, [], _∷_}
+use lib.Dec.{eqb}
+use Rattle.paper.specs.Notation.{pick}
+use Rattle.paper.specs.InstructionToken.{commentOpcode, endOpcode}
+use Rattle.paper.specs.declared.Version.{Version}
+use Rattle.records.specs.declared.Record.{Record}
+use Rattle.records.specs.Record.{recordOf}
+use Rattle.reader.specs.declared.Answer.{Answer}
+use Rattle.reader.specs.declared.Answer.the-variants.{Got, Refused}
+use Rattle.reader.specs.Reading.{reading}
+
+abbrev pub onAnswer : Answer → Record → (ℕ → List Record) → List Record
+onAnswer (Got next) instruction rest = instruction ∷ rest next
+onAnswer (Refused r) instruction rest = []
+
+-- so many instructions of a stream, from a place on
+unfoldable pub recordsFrom : ℕ → ℕ → List ℕ → ℕ → List Record
+recordsFrom zero version stream at = []
+recordsFrom (suc more) version stream at =
+    onAnswer (reading version stream at .answer) (reading version stream at .instruction) (λ next. recordsFrom more version stream next)
+
+-- the records of chunks
+abbrev pub recordsOf : Version → List (List ℕ) → List Record
+recordsOf v [] = []
+recordsOf v (chunk ∷ chunks) = recordOf v chunk ∷ recordsOf v chunks
+
+-- how many of them are neither a comment's nor END's
+abbrev pub isPassed : Record → Bool
+isPassed r = eqb (r .opcode) commentOpcode || eqb (r .opcode) endOpcode
+
+abbrev pub counted : List Record → ℕ
+counted [] = 0
+counted (r ∷ rs) = pick (isPassed r) (counted rs) (suc (counted rs))

@@ -1,0 +1,1 @@
+// The theorems about reading a stream from boundary to boundary.
