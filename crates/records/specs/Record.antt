@@ -22,23 +22,6 @@ resultOf token = bits 22 20 token
 abbrev pub swizzleOf : ℕ → ℕ
 swizzleOf token = bits 23 16 token
 
--- an unused place
-abbrev pub noOperand : Operand
-noOperand =
-    record {
-      number = 0;
-      kind = 0;
-      mask = 0;
-      swizzle = 0;
-      modifier = 0;
-      result = 0;
-      relative = 0;
-      «relative_number» = 0;
-      «relative_kind» = 0;
-      «relative_swizzle» = 0;
-      raw = 0;
-    }
-
 -- R and U are held as they stand
 abbrev pub rawOperand : ℕ → Operand
 rawOperand token =
@@ -55,6 +38,10 @@ rawOperand token =
       «relative_swizzle» = 0;
       raw = token;
     }
+
+-- an unused place
+abbrev pub noOperand : Operand
+noOperand = rawOperand 0
 
 -- a destination and its relative token, 0 where it has none
 abbrev pub destinationOperand : ℕ → ℕ → Operand
