@@ -14,23 +14,15 @@ use Rattle.paper.specs.declared.Version.{Version}
 use Rattle.paper.specs.declared.Reason.the-variants.{RunOut as RUN-OUT}
 use Rattle.paper.specs.declared.Refusal.{Refusal}
 use Rattle.paper.specs.declared.Verdict.the-variants.{Refused as no-verdict}
-use Rattle.instruction.specs.declared.Head.{Head}
-use Rattle.instruction.specs.Encoded.{encoded}
+use Rattle.instruction.specs.Numbered.{judgedIn}
 use Rattle.walk.specs.declared.State.{State}
 use Rattle.walk.specs.declared.Stepped.the-variants.{On, Done, Refused}
-use Rattle.walk.specs.Steps.{looksAt, stepBy}
+use Rattle.walk.specs.Steps.{onJudged, shownOf}
 use Rattle.walk.specs.Stands.{Stands, Ends, stepAt}
-use Rattle.walk.proofs.Bounds.{looks-few, looks-within}
+use Rattle.walk.proofs.Telling.{shown-moves}
 use Rattle.walk.proofs.OnStream.{step-on, step-done, step-refused, ends-accepted, ends-tail, stands-out}
 use Rattle.bytes.specs.Bytes.{tokensOf, tokenAt, endsAt}
 use Rattle.bytes.proofs.Tokens.{tokens-at, tokens-length}
-
--- the window has room for what an instruction is judged by, and its tokens are there
-pub looked-few : (v : Version) (first left looked : ℕ) (h : Head) → h ≡ encoded (head v first) → looked ≡ looksAt h left →
-    (looked ≤ 15) × (looked ≤ left)
-looked-few v first left looked h e f =
-    let few : looksAt h left < 16 = rw e (looks-few left v first) in
-    (omega (arith, few), omega (arith, looks-within h left))
 
 module _ (v : Version) (bytes : List ℕ) (tokens : ℕ) (whole : length bytes ≡ 4 * tokens) where
   -- no token is left where an instruction must start
@@ -48,17 +40,16 @@ module _ (v : Version) (bytes : List ℕ) (tokens : ℕ) (whole : length bytes �
       by-order false e =
           rw e (sym (ends-accepted v (tokensOf bytes) state h (omega (arith, ltb-false (state .at) tokens e, tokens-length bytes tokens whole))))
 
-  -- the step over a window that holds what the instruction is judged by is the stream's
-  pub turned : (state : State) (first left looked : ℕ) (h : Head) (window : List ℕ) → state .at < tokens → first ≡ tokenAt bytes (state .at) →
-      left ≡ tokens - (state .at + 1) → h ≡ encoded (head v first) → looked ≡ looksAt h left →
-      take looked window ≡ take looked (drop (state .at + 1) (tokensOf bytes)) →
-      stepBy v state h first (take looked window) left ≡ stepAt v (tokensOf bytes) state
+  -- the step over a window that shows the instruction's tokens is the stream's
+  pub turned : (state : State) (first left shown : ℕ) (window : List ℕ) → state .at < tokens → first ≡ tokenAt bytes (state .at) →
+      left ≡ tokens - (state .at + 1) → shown ≡ shownOf left → take shown window ≡ take shown (drop (state .at + 1) (tokensOf bytes)) →
+      onJudged (judgedIn v first (take shown window) left) state ≡ stepAt v (tokensOf bytes) state
   unfolding stepAt
-  turned state first left looked h window lt first-is left-is head-is looked-is window-is =
+  turned state first left shown window lt first-is left-is shown-is window-is =
       let long = tokens-length bytes tokens whole in
       let token : getD (tokensOf bytes) (state .at) 0 ≡ first = tokens-at bytes (state .at) (omega arith) .1 ∙ sym first-is in
-      let behind : left ≡ length (tokensOf bytes) - (state .at + 1) = omega arith in
-      rw (token, ← head-is, ← behind, ← looked-is, window-is)
+      rw token at
+      (shown-moves v state (tokensOf bytes) (take shown window) (state .at) left shown (omega arith) (omega arith) shown-is window-is)
 
   module _ (fits : tokens < 2 ^ 64) (state : State) (stands : Stands v (tokensOf bytes) state) (lt : state .at < tokens) where
     inside : (state .at < length (tokensOf bytes)) × (length (tokensOf bytes) < 2 ^ 64)

@@ -91,10 +91,9 @@ fn step_at(
     let at = state.at;
     let left = tokens - (at + 1);
     let first = token_at(bytes, at);
-    let head = instruction::read_head(version, first);
-    let looked = walk::looks_at(head, left);
-    fill_window(window, bytes, at + 1, looked, left);
-    walk::step(version, state, head, first, &window[..looked], left)
+    let shown = walk::shown_of(left);
+    fill_window(window, bytes, at + 1, shown, left);
+    walk::step(version, state, first, &window[..shown], left)
 }
 
 // The walk of a stream, from behind its version on.

@@ -57,7 +57,7 @@ module _ (v : Version) (s : List ℕ) (state : State) (h : Stands v s state) (in
         let f = first-of (between here there (omega arith)) before in
         let said : nextBy (state .kinds) (f .class) ≡ numbered (go (f .next)) =
         ap (λ (k : ℕ). nextBy k (f .class)) (h .numbered) ∙ next-is (h .opened) (f .class) ∙ ap numbered (f .goes) in
-        (behindOf state (f .size) (f .class) (numberOf (f .next)), step-judged v s state inside fits ∙ rw (f .good, said), omega (arith, f .near))
+        (behindOf state (f .size) (f .class) (numberOf (f .next)), step-judged v s state ∙ rw (f .good, said), omega (arith, f .near))
 
     no-boundary : ((next : State) → stepAt v s state ≡ On next → next .at ≤ t → ⊥) → standingAt v s t ≡ nowhere
     no-boundary never = this (standingAt v s t) refl

@@ -2,56 +2,30 @@
 use Prim.Native.Nat.{ℕ, _+_, _-_, _≤_, _<_}
 use mathlib.Core.Path.{_≡_, refl, sym, ap, _∙_}
 use mathlib.Core.List.{List, _++_}
-use native.Mathlib.Nat.{add-zero}
 use native.Mathlib.Numerals.{add-one}
 use native.Mathlib.Omega.{arith}
 use lib.ListN.{length, take, drop, getD, set, length-append, length-drop, List·getD-append}
 use lib.Seq.{take-suc, take-suc-set, take-append-le, drop-append-le, drop-append-add, drop-drop, getD-drop, getD-append-add, length-take-le}
-use Rattle.paper.specs.Instruction.{head}
+use Rattle.paper.specs.Instruction.{judged}
 use Rattle.paper.specs.declared.Version.{Version}
-use Rattle.instruction.specs.declared.Head.{Head}
-use Rattle.instruction.specs.Encoded.{encoded}
+use Rattle.instruction.specs.Numbered.{judgedIn}
 use Rattle.edit.specs.Edit.{splice}
 use Rattle.edit.proofs.Prefix.{splice-length}
 use Rattle.walk.specs.declared.State.{State}
-use Rattle.walk.specs.Steps.{looksAt, stepBy}
+use Rattle.walk.specs.Steps.{onJudged, shownOf}
 use Rattle.walk.specs.Stands.{stepAt}
-use Rattle.walk.proofs.Bounds.{looks-few, looks-within}
-use Rattle.editing.specs.Steps.{behindRun, stepIn}
-
--- an instruction is judged by at most fifteen tokens, and they are there
-pub looked-few : (v : Version) (first left looked : ℕ) (h : Head) → h ≡ encoded (head v first) → looked ≡ looksAt h left → (looked ≤ 15) × (looked ≤ left)
-looked-few v first left looked h e f =
-    let few : looksAt h left < 16 = rw e (looks-few left v first) in
-    (omega (arith, few), omega (arith, looks-within h left))
+use Rattle.walk.proofs.Telling.{shown-moves}
+use Rattle.editing.specs.Steps.{behindRun}
 
 -- a part of so many tokens, by its two ends
 pub part-size : (from n : ℕ) (tokens : List ℕ) → take (from + n - from) tokens ≡ take n tokens
 part-size from n tokens = let size : from + n - from ≡ n = omega arith in rw size
 
--- the step by what was read at a place
-pub step-read : (v : Version) (s : List ℕ) (at : ℕ) (state : State) (first left looked : ℕ) (h : Head) (part : List ℕ) →
-    first ≡ getD s at 0 → left ≡ length s - (at + 1) → h ≡ encoded (head v first) → looked ≡ looksAt h left → part ≡ take looked (drop (at + 1) s) →
-    stepBy v state h first part left ≡ stepIn v s at state
-unfolding stepIn
-step-read v s at state first left looked h part first-is left-is head-is looked-is part-is =
-    rw (← first-is, ← head-is, ← left-is, ← looked-is, part-is)
-
--- the step at the stream's own place
-pub step-here : (v : Version) (s : List ℕ) (state : State) → stepIn v s (state .at) state ≡ stepAt v s state
-unfolding stepIn stepAt
-step-here v s state = refl
-
 -- the step where the same tokens lie elsewhere
-pub step-there : (v : Version) (s t : List ℕ) (at : ℕ) (state : State) → drop at s ≡ drop (state .at) t → stepIn v s at state ≡ stepAt v t state
-unfolding stepIn stepAt
-step-there v s t at state e =
-    let p = state .at in
-    let token : getD s at 0 ≡ getD t p 0 =
-    ap (λ (n : ℕ). getD s n 0) (sym (add-zero at)) ∙ sym (getD-drop at s 0 0) ∙ ap (λ (l : List ℕ). getD l 0 0) e ∙ getD-drop p t 0 0 ∙ ap (λ (n : ℕ). getD t n 0) (add-zero p) in
-    let rest : drop (at + 1) s ≡ drop (p + 1) t = sym (drop-drop 1 at s) ∙ ap (drop 1) e ∙ drop-drop 1 p t in
-    let left : length s - (at + 1) ≡ length t - (p + 1) = sym (length-drop (at + 1) s) ∙ ap length rest ∙ length-drop (p + 1) t in
-    rw (token, rest, left)
+pub step-there : (v : Version) (s t : List ℕ) (at : ℕ) (state : State) → drop at s ≡ drop (state .at) t →
+    onJudged (judged v (drop at s)) state ≡ stepAt v t state
+unfolding stepAt
+step-there v s t at state e = rw e refl
 
 module _ (run old : List ℕ) (j : ℕ) where
   pub behind-length : length (behindRun run old j) ≡ length run + (length old - j)
@@ -97,7 +71,7 @@ module _ (run old : List ℕ) (j : ℕ) where
 
     module _ (v : Version) (state : State) (behind : i ≤ state .at) where
       -- the step over the old tokens
-      pub step-in-old : length run ≤ state .at - i → stepIn v old (j + (state .at - i - length run)) state ≡ stepAt v (splice old i j run) state
+      pub step-in-old : length run ≤ state .at - i → onJudged (judged v (drop (j + (state .at - i - length run)) old)) state ≡ stepAt v (splice old i j run) state
       step-in-old past =
           let k = state .at - i in
           let place : i + k ≡ state .at = omega arith in
@@ -107,15 +81,18 @@ module _ (run old : List ℕ) (j : ℕ) where
           step-there v old (splice old i j run) (j + (k - length run)) state (rw place at same)
 
       -- the step over the run, and over old tokens behind it
-      pub step-in-run : (first left looked : ℕ) (h : Head) (part : List ℕ) → state .at - i < length run → first ≡ getD run (state .at - i) 0 →
-          left ≡ length run - (state .at - i + 1) + (length old - j) → h ≡ encoded (head v first) → looked ≡ looksAt h left →
-          part ≡ take looked (drop (state .at - i + 1) (behindRun run old j)) → stepBy v state h first part left ≡ stepAt v (splice old i j run) state
-      step-in-run first left looked h part within first-is left-is head-is looked-is part-is =
+      pub step-in-run : (first left shown : ℕ) (part : List ℕ) → state .at - i < length run → first ≡ getD run (state .at - i) 0 →
+          left ≡ length run - (state .at - i + 1) + (length old - j) → shown ≡ shownOf left →
+          part ≡ take shown (drop (state .at - i + 1) (behindRun run old j)) →
+          onJudged (judgedIn v first part left) state ≡ stepAt v (splice old i j run) state
+      unfolding stepAt
+      step-in-run first left shown part within first-is left-is shown-is part-is =
           let k = state .at - i in
           let place : i + k ≡ state .at = omega arith in
           let next : i + (k + 1) ≡ state .at + 1 = omega arith in
           let token : first ≡ getD (splice old i j run) (i + k) 0 = first-is ∙ sym (behind-in-run k within) ∙ sym (splice-token k) in
-          let rest : part ≡ take looked (drop (i + (k + 1)) (splice old i j run)) = part-is ∙ ap (take looked) (sym (splice-behind (k + 1))) in
-          step-read v (splice old i j run) (state .at) state first left looked h part (rw place at token)
-          (omega (arith, splice-length old i j run inside)) head-is looked-is (rw next at rest)
-          ∙ step-here v (splice old i j run) state
+          let here : getD (splice old i j run) (state .at) 0 ≡ first = sym (rw place at token) in
+          let rest : part ≡ take shown (drop (i + (k + 1)) (splice old i j run)) = part-is ∙ ap (take shown) (sym (splice-behind (k + 1))) in
+          rw here at
+          (shown-moves v state (splice old i j run) part (state .at) left shown (omega (arith, splice-length old i j run inside))
+          (omega (arith, splice-length old i j run inside)) shown-is (rw next at rest))

@@ -7,7 +7,7 @@ ghost use Rattle.paper.specs.Numbers.{refusal};
 ghost use Rattle.paper.specs.Stream.{mostTokens};
 ghost use Rattle.edit.specs.Edit.{splice, newLength, spliced, edited, editedIn, bufferAfter, toldEdit};
 ghost use Rattle.walk.specs.Stands.{Stands, stepAt};
-ghost use Rattle.editing.specs.Steps.{behindRun, stepIn};
+ghost use Rattle.editing.specs.Steps.{behindRun};
 ghost use Rattle.editing.specs.Found.{FoundAt, Between, InSplice};
 ghost use Rattle.editing.specs.Answers.{endsAt, afterPlace, afterVersion};
 use edit::Edited;
@@ -33,20 +33,6 @@ fn refused(reason: Reason, position: usize) -> Edited
     Edited::Refused(Refusal { reason, position })
 }
 
-// The step at `state` of a walk whose tokens from there on are these tokens from `at` on.
-fn step_in(version: Version, tokens: &[u32], at: usize, state: State) -> Stepped
-    requires { ⌜ at < length (now tokens) ⌝ }
-    ensures { λ r. ⌜ r ≡ stepIn version (now (tokens .entry)) at state ⌝ }
-{
-    let from = at + 1;
-    let left = tokens.len() - from;
-    let first = tokens[at];
-    let head = instruction::read_head(version, first);
-    let looked = walk::looks_at(head, left);
-    let end = from + looked;
-    walk::step(version, state, head, first, &tokens[from..end], left)
-}
-
 // The walk from `from` on, up to `target`.
 fn walk_to(version: Version, tokens: &[u32], from: State, target: usize) -> Found
     requires { ⌜ Stands version (now tokens) from × (from .at ≤ target) × (target < length (now tokens)) ⌝ }
@@ -54,7 +40,7 @@ fn walk_to(version: Version, tokens: &[u32], from: State, target: usize) -> Foun
 {
     let mut state = from;
     while state.at < target {
-        let stepped = step_in(version, tokens, state.at, state);
+        let stepped = walk::step_in(version, state, tokens, state.at);
         match stepped {
             Stepped::On(next) => {
                 if target < next.at {
@@ -111,20 +97,19 @@ fn step_spliced(
 {
     let at = state.at - i;
     if run.len() <= at {
-        return step_in(version, old, j + (at - run.len()), state);
+        return walk::step_in(version, state, old, j + (at - run.len()));
     }
     let from = at + 1;
     let own = run.len() - from;
     let left = own + (old.len() - j);
     let first = run[at];
-    let head = instruction::read_head(version, first);
-    let looked = walk::looks_at(head, left);
-    if looked <= own {
-        let end = from + looked;
-        return walk::step(version, state, head, first, &run[from..end], left);
+    let shown = walk::shown_of(left);
+    if shown <= own {
+        let end = from + shown;
+        return walk::step(version, state, first, &run[from..end], left);
     }
-    gather(window, run, old, j, from, looked);
-    walk::step(version, state, head, first, &window[..looked], left)
+    gather(window, run, old, j, from, shown);
+    walk::step(version, state, first, &window[..shown], left)
 }
 
 // Behind the END that finishes a splice of `length` tokens.

@@ -24,9 +24,6 @@ use Rattle.paper.specs.declared.Judged.{Judged}
 use Rattle.paper.specs.declared.Judged.the-variants.{Refused as Unfit}
 use Rattle.paper.specs.declared.Reason.the-variants.{Bits as BITS, RunOut as RUN-OUT}
 use Rattle.opcodes.proofs.Laws.{length-places}
-use Rattle.opcodes.specs.Rows.{commonPlaces}
-use Rattle.opcodes.proofs.Table.{common}
-use Rattle.paper.proofs.Below.{both-left, both-right}
 use Rattle.instruction.specs.declared.Head.{Head}
 use Rattle.instruction.specs.declared.Head.the-variants.{Refused, End, Comment, Operation}
 use Rattle.instruction.specs.Encoded.{encoded, claimOf, judgedBy, controlsBy, bitsBy, placesBy, headBy}
@@ -143,32 +140,6 @@ pub head-other : (v : Version) (token : ℕ) → (opcodeOf token ≡ commentOpco
     encoded (head v token) ≡ headBy (shapeOf v (opcodeOf token)) token
 unfolding head
 head-other v token no-comment no-end = rw (ne-eqb _ _ no-comment, ne-eqb _ _ no-end) (sym (head-shaped v token (entryOf v (opcodeOf token)) refl))
-
--- the commonest opcodes, with no controls and no predicate
-pub head-common : (v : Version) (token : ℕ) →
-    not (eqb (commonPlaces (opcodeOf token)) 0) && (eqb (token / 268435456) 0 && eqb (controlsOf token) 0) ≡ true →
-    Operation (commonPlaces (opcodeOf token)) (statedSize token) ≡ encoded (head v token)
-unfolding headBy bitsBy placesBy
-head-common v token t =
-    let zeros = both-right (not (eqb (commonPlaces (opcodeOf token)) 0)) _ t in
-    let some = eqb-false _ _ (not-true _ (both-left (not (eqb (commonPlaces (opcodeOf token)) 0)) _ t)) in
-    let c = common v (opcodeOf token) some in
-    let high : token / 268435456 ≡ 0 = eqb-true (token / 268435456) 0 (both-left (eqb (token / 268435456) 0) _ zeros) in
-    let low : opcodeOf token < 25 = c .low in
-    let reserved : bits 31 29 token ≡ 0 = omega arith in
-    let unpredicated : bit 28 token ≡ 0 = omega arith in
-    let plain : isPredicated token ≡ false = ne-eqb (bit 28 token) 1 (λ e. omega arith) in
-    sym (head-other v token (λ e. omega arith) (λ e. omega arith)
-    ∙ rw (
-      c .listed,
-      c .rule,
-      eq-eqb _ _ reserved,
-      both-right (eqb (token / 268435456) 0) _ zeros,
-      eq-eqb _ _ unpredicated,
-      ne-eqb (opcodeOf token) DCL (λ e. omega arith),
-      plain,
-      c .places,
-    ) refl)
 
 -- the places that a head gives are read back from their number
 module _ (v : Version) (token : ℕ) (letters : List Letter) (e : entryOf v (opcodeOf token) ≡ listed letters) (laid : bitsLaid v token letters ≡ true) where

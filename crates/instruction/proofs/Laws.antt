@@ -1,29 +1,30 @@
 -- An operand by the place of its tokens among those behind the instruction token.
 use mathlib.Core.Path.{_≡_, refl, sym, _∙_}
-use mathlib.Core.Bool.{Bool, true, false, _||_, _&&_}
+use mathlib.Core.Bool.{Bool, true, false}
 use mathlib.Core.List.{List, [], _∷_}
-use Prim.Native.Nat.{ℕ, suc, _+_, _/_, _%_, _^_, _<_, _≤_}
+use Prim.Native.Nat.{ℕ, suc, _+_, _*_, _/_, _%_, _^_, _<_, _≤_}
 use native.Mathlib.Numerals.{add-one}
 use native.Mathlib.Omega.{arith}
-use lib.Dec.{eqb, leb, ltb}
+use lib.Dec.{eqb}
 use lib.ListN.{length, drop, getD, length-drop, drop-of-length-le}
 use lib.Seq.{drop-cons, drop-drop}
-use borrow.Author.Tests.{ne-eqb, leb-true, ltb-true}
-use Rattle.paper.specs.Blocks.{classOf}
-use Rattle.paper.specs.declared.Single.the-variants.{Plain}
-use Rattle.paper.specs.declared.Class.the-variants.{One}
-use Rattle.paper.specs.Notation.{pick}
-use Rattle.paper.specs.Numbers.{refusal}
-use Rattle.paper.specs.OperandTokens.{relative, tokenAt, bringsRelative}
+use borrow.Author.Tests.{eq-eqb, ne-eqb, eqb-true}
+use Rattle.paper.specs.Notation.{bit, pick}
+use Rattle.paper.specs.Numbers.{refusal, toldToken}
+use Rattle.paper.specs.OperandTokens.{raw, relative, freeSource, freeDestination, tokenAt, bringsRelative}
 use Rattle.paper.specs.Instruction.{onToken, relativeToken, operand, onTaken, operands}
 use Rattle.paper.specs.declared.Version.{Version}
 use Rattle.paper.specs.declared.Reason.the-variants.{Size as SIZE}
 use Rattle.paper.specs.declared.Refusal.{Refusal}
 use Rattle.paper.specs.declared.Token.{Token}
 use Rattle.paper.specs.declared.Token.the-variants.{Good, Bad}
+use Rattle.paper.specs.declared.Taken.{Taken}
 use Rattle.paper.specs.declared.Taken.the-variants.{Took, Refused}
 use Rattle.paper.specs.declared.Operands.the-variants.{Fit, Refused as Unfit}
 use Rattle.opcodes.specs.Places.{decoded}
+use Rattle.tokens.proofs.Laws.{raw-good, not-free-not-relative}
+use Rattle.instruction.specs.Numbered.{takenNumber}
+use Rattle.instruction.proofs.Numbers.{on-token-number, taken-pick}
 use Rattle.opcodes.proofs.Laws.{decoded-zero, decoded-step}
 
 pub relative-none : (v : Version) (offset at : ℕ) (behind : List ℕ) → length behind ≤ at →
@@ -45,6 +46,46 @@ pub operand-at : (v : Version) (place offset at : ℕ) (behind : List ℕ) → a
     (pick (bringsRelative place (getD behind at 0)) (relativeToken v (offset + 1) (drop (at + 1) behind)) (Took 1))
 unfolding operand
 operand-at v place offset at behind h = rw (drop-cons behind at 0 h, add-one at)
+
+-- what is told of an operand, by what is told of its token
+pub relative-number : (v : Version) (offset at told : ℕ) (behind : List ℕ) → at < length behind →
+    told ≡ toldToken (tokenAt v relative (getD behind at 0)) →
+    takenNumber (relativeToken v offset (drop at behind)) ≡ pick (eqb told 0) 4 (32 * offset + (2 * told + 1))
+relative-number v offset at told behind h e =
+    rw (relative-at v offset at behind h) (on-token-number (tokenAt v relative (getD behind at 0)) told offset (Took 2) e)
+
+module _ (v : Version) (place offset at told : ℕ) (behind : List ℕ) (h : at < length behind) where
+  abbrev token : ℕ
+  token = getD behind at 0
+
+  abbrev brought : Taken
+  brought = relativeToken v (offset + 1) (drop (at + 1) behind)
+
+  module _ (e : told ≡ toldToken (tokenAt v place token)) where
+    operand-number : takenNumber (operand v place offset (drop at behind)) ≡
+        pick (eqb told 0) (pick (bringsRelative place token) (takenNumber brought) 2) (32 * offset + (2 * told + 1))
+    operand-number =
+        rw (operand-at v place offset at behind h, ← (taken-pick (bringsRelative place token) brought (Took 1)))
+        (on-token-number (tokenAt v place token) told offset (pick (bringsRelative place token) brought (Took 1)) e)
+
+    pub free-number : (place ≡ raw → ⊥) → takenNumber (operand v place offset (drop at behind)) ≡
+        pick (eqb told 0) (pick (eqb (bit 13 token) 1) (takenNumber brought) 2) (32 * offset + (2 * told + 1))
+    free-number n = operand-number ∙ rw (ne-eqb place raw n) refl
+
+    typed-by : (z : Bool) → eqb told 0 ≡ z → (place ≡ freeSource → ⊥) → (place ≡ freeDestination → ⊥) →
+        pick z (pick (bringsRelative place token) (takenNumber brought) 2) (32 * offset + (2 * told + 1)) ≡
+        pick z 2 (32 * offset + (2 * told + 1))
+    typed-by true z no-source no-destination =
+        rw (not-free-not-relative v place token no-source no-destination (sym e ∙ eqb-true told 0 z)) refl
+    typed-by false z no-source no-destination = refl
+
+    pub typed-number : (place ≡ freeSource → ⊥) → (place ≡ freeDestination → ⊥) →
+        takenNumber (operand v place offset (drop at behind)) ≡ pick (eqb told 0) 2 (32 * offset + (2 * told + 1))
+    typed-number no-source no-destination = operand-number ∙ typed-by (eqb told 0) refl no-source no-destination
+
+  pub raw-number : place ≡ raw → takenNumber (operand v place offset (drop at behind)) ≡ 2
+  raw-number r =
+      rw (operand-at v place offset at behind h, ← (raw-good v place token (eq-eqb place raw r)), eq-eqb place raw r) refl
 
 -- an operand takes tokens that are there
 module _ (v : Version) (place offset n : ℕ) where
@@ -95,42 +136,3 @@ module _ (v : Version) (left offset at : ℕ) (behind : List ℕ) (none : left �
   pub operands-over : at ≤ length behind → (at ≡ length behind → ⊥) → operands v (decoded left) offset (drop at behind) ≡ Unfit (refusal SIZE 0)
   unfolding operands
   operands-over h more = rw (none, decoded-zero, drop-cons behind at 0 (omega arith))
-
--- an opcode below, between or above those of the blocks computes
-module _ (opcode : ℕ) (other : (k : ℕ) → 25 ≤ k → k ≤ 45 → opcode ≡ k → ⊥) (no-predicate : opcode ≡ 96 → ⊥) where
-  not-nested : (k : ℕ) → leb 25 k ≡ true → leb k 45 ≡ true → eqb opcode k ≡ false
-  not-nested k low high = ne-eqb opcode k (other k (leb-true 25 k low) (leb-true k 45 high))
-
-  computes : classOf opcode ≡ One Plain
-  unfolding classOf
-  computes =
-      rw (
-        not-nested 40 refl refl,
-        not-nested 41 refl refl,
-        not-nested 27 refl refl,
-        not-nested 38 refl refl,
-        not-nested 42 refl refl,
-        not-nested 43 refl refl,
-        not-nested 29 refl refl,
-        not-nested 39 refl refl,
-        not-nested 44 refl refl,
-        not-nested 45 refl refl,
-        ne-eqb opcode 96 no-predicate,
-        not-nested 30 refl refl,
-        not-nested 28 refl refl,
-      )
-
-plain-by : (opcode : ℕ) (low middle high : Bool) → ltb opcode 25 ≡ low → leb 46 opcode ≡ middle → leb opcode 95 ≡ high →
-    low || (middle && high) ≡ true → classOf opcode ≡ One Plain
-plain-by opcode true middle high l m h t =
-    let below : opcode < 25 = ltb-true opcode 25 l in
-    computes opcode (λ k a b e. omega arith) (λ e. omega arith)
-plain-by opcode false true true l m h t =
-    let above : 46 ≤ opcode = leb-true 46 opcode m in
-    let under : opcode ≤ 95 = leb-true opcode 95 h in
-    computes opcode (λ k a b e. omega arith) (λ e. omega arith)
-plain-by opcode false true false l m h t = let z : _≡_ {A = ℕ} 0 1 = cc in absurd (omega arith)
-plain-by opcode false false high l m h t = let z : _≡_ {A = ℕ} 0 1 = cc in absurd (omega arith)
-
-pub plain-class : (opcode : ℕ) → ltb opcode 25 || (leb 46 opcode && leb opcode 95) ≡ true → classOf opcode ≡ One Plain
-plain-class opcode t = plain-by opcode (ltb opcode 25) (leb 46 opcode) (leb opcode 95) refl refl refl t

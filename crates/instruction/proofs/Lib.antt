@@ -1,2 +1,4 @@
+pub mod Numbers
 pub mod Heads
 pub mod Laws
+pub mod Judging

@@ -3,6 +3,7 @@ use Prim.Native.Nat.{ℕ, _+_, _*_, _/_, _%_, _^_}
 use mathlib.Core.Bool.{Bool, not, _&&_, _||_}
 use mathlib.Core.List.{List}
 use lib.Dec.{eqb, leb}
+use lib.ListN.{length, take}
 use Rattle.paper.specs.Notation.{bits, bit, pick}
 use Rattle.paper.specs.OpcodeTable.{DCL}
 use Rattle.paper.specs.InstructionToken.{opcodeOf, controlsOf, statedSize, isPredicated}
@@ -17,9 +18,10 @@ use Rattle.paper.specs.declared.Version.{Version}
 use Rattle.paper.specs.declared.Class.the-variants.{One, Closes}
 use Rattle.paper.specs.declared.Single.the-variants.{Comment as comment-of}
 use Rattle.paper.specs.declared.Closer.the-variants.{End as end-of-stream}
+use Rattle.paper.specs.declared.Operands.{Operands}
 use Rattle.paper.specs.declared.Judged.{Judged}
 use Rattle.paper.specs.declared.Judged.the-variants.{Good, Refused as Unfit}
-use Rattle.paper.specs.declared.Reason.the-variants.{Opcode as OPCODE, Bits as BITS}
+use Rattle.paper.specs.declared.Reason.the-variants.{Opcode as OPCODE, Bits as BITS, RunOut as RUN-OUT}
 use Rattle.instruction.specs.declared.Head.{Head}
 use Rattle.instruction.specs.declared.Head.the-variants.{Refused, End, Comment, Declaration, Operation}
 
@@ -54,6 +56,9 @@ controlsBy rule controls =
 abbrev pub ruleIn : ℕ → ℕ
 ruleIn shape = shape / 2 ^ 38 % 4
 
+abbrev pub hasZeros : ℕ → Bool
+hasZeros token = eqb (token / 2 ^ 28) 0 && eqb (controlsOf token) 0
+
 abbrev pub stepIn : ℕ → ℕ
 stepIn shape = shape / 2 ^ 35 % 8
 
@@ -72,3 +77,14 @@ headBy shape token =
     (pick (bitsBy shape token)
     (pick (eqb (opcodeOf token) DCL) (Declaration (statedSize token)) (Operation (placesBy shape token) (statedSize token)))
     (Refused BITS))
+
+-- the operands of a listed instruction that claims these tokens, and the instruction where so many tokens are shown behind its first
+abbrev pub operandsBy : Version → ℕ → ℕ → List ℕ → Operands
+operandsBy v shape first behind =
+    pick (eqb (opcodeOf first) DCL) (declaration v behind) (operands v (decoded (placesBy shape first)) 1 behind)
+
+abbrev pub listedIn : Version → ℕ → ℕ → List ℕ → Judged
+listedIn v shape first behind =
+    pick (leb (statedSize first) (length behind))
+    (onOperands (operandsBy v shape first (take (statedSize first) behind)) (statedSize first) (classOf (opcodeOf first)))
+    (Unfit (refusal RUN-OUT 0))

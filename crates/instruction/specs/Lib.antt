@@ -1,2 +1,3 @@
 -- What an instruction's first token says, as the code hands it on.
 pub mod Encoded
+pub mod Numbered

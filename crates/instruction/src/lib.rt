@@ -1,15 +1,16 @@
 // One instruction, judged on its own tokens: document 01, "The numbers given back", the order within one instruction.
 ghost use mathlib.Core.Path.{_≡_};
-ghost use Prim.Native.Nat.{_+_, _≤_};
+ghost use Prim.Native.Nat.{_+_, _*_, _≤_, _<_};
 ghost use lib.Dec.{eqb};
-ghost use lib.ListN.{length, drop};
-ghost use Rattle.paper.specs.Notation.{pick};
-ghost use Rattle.paper.specs.Numbers.{refusal};
+ghost use lib.ListN.{length, take, drop};
+ghost use Rattle.paper.specs.Notation.{bit, pick};
 ghost use Rattle.paper.specs.InstructionToken.{commentLaid, commentLength, endToken};
 ghost use Rattle.paper.specs.Blocks.{classOf};
-ghost use Rattle.paper.specs.Instruction.{head, relativeToken, operand, operands, onOperands, judged};
+ghost use Rattle.paper.specs.Dcl.{declaration};
+ghost use Rattle.paper.specs.Instruction.{head, relativeToken, operand, operands, judged};
 ghost use Rattle.opcodes.specs.Places.{decoded};
-ghost use Rattle.instruction.specs.Encoded.{encoded, claimOf, judgedBy, controlsBy, bitsBy, placesBy, headBy};
+ghost use Rattle.instruction.specs.Encoded.{encoded, claimOf, ruleIn, hasZeros, controlsBy, bitsBy, placesBy, headBy, operandsBy, listedIn};
+ghost use Rattle.instruction.specs.Numbered.{classNumber, classBy, reasonBy, takenNumber, operandsNumber, judgedNumber, judgedFrom, judgedIn, unlistedIn};
 use paper::Class;
 use paper::Closer;
 use paper::Judged;
@@ -18,14 +19,33 @@ use paper::Operands;
 use paper::Reason;
 use paper::Refusal;
 use paper::Single;
-use paper::Taken;
-use paper::Token;
 use paper::Version;
 
 // Places of specs/OperandTokens.antt.
+const RAW: u64 = 1;
+
+const FREE_DESTINATION: u64 = 63;
+
 const PREDICATE: u64 = 93;
 
-const RELATIVE: u64 = 94;
+const FREE_SOURCE: u64 = 95;
+
+// What is told of an instruction is one number, of specs/Numbered.antt: a yes is even, a refusal odd. These are refusals at position 0.
+const OPCODE: u64 = 2 * 3 + 1;
+
+const BITS: u64 = 2 * 4 + 1;
+
+const RUN_OUT: u64 = 2 * 5 + 1;
+
+const SIZE: u64 = 2 * 6 + 1;
+
+// One and two tokens that an operand takes.
+const ONE_TAKEN: u64 = 2;
+
+const TWO_TAKEN: u64 = 4;
+
+// The class of END, as a yes of no tokens has it.
+const ENDED: u64 = 2 * 12;
 
 // What an instruction's first token says by itself: a refusal, END, a comment and its length, a DCL and its stated size,
 // another instruction's places, a digit of base 128 for each, and its stated size.
@@ -50,10 +70,21 @@ fn controls_laid(rule: u64, controls: u32) -> bool
     controls == 0
 }
 
-// Bits 31 to 16 of an instruction token, by the shape of its opcode.
+// Neither a reserved bit, nor a predicate, nor controls.
+fn has_zeros(token: u32) -> bool
+    ensures { λ r. ⌜ r ≡ hasZeros token ⌝ }
+{
+    (token / 0x1000_0000 == 0) & (token / 0x1_0000 % 0x100 == 0)
+}
+
+// Bits 31 to 16 of an instruction token, by the shape of its opcode. Most have zeros there, which only a comparison may not.
 fn bits_laid(shape: u64, token: u32) -> bool
+    requires { ⌜ ruleIn shape < 3 ⌝ }
     ensures { λ r. ⌜ r ≡ bitsBy shape token ⌝ }
 {
+    if has_zeros(token) {
+        return shape / 0x40_0000_0000 % 2 == 0;
+    }
     let controls = controls_laid(shape / 0x40_0000_0000 % 4, token / 0x1_0000 % 0x100);
     (token / 0x2000_0000 % 8 == 0)
         & (controls & ((token / 0x1000_0000 % 2 == 0) | (shape / 0x8_0000_0000 % 8 != 0)))
@@ -90,6 +121,7 @@ fn end_head(token: u32) -> Head
 
 // The head of an instruction whose opcode has this shape.
 fn shape_head(shape: u64, token: u32) -> Head
+    requires { ⌜ ruleIn shape < 3 ⌝ }
     ensures { λ r. ⌜ r ≡ headBy shape token ⌝ }
 {
     if shape == 0 {
@@ -110,10 +142,6 @@ pub fn read_head(version: Version, token: u32) -> Head
     ensures { λ r. ⌜ r ≡ encoded (head version token) ⌝ }
 {
     let opcode = token % 0x1_0000;
-    let common = opcodes::common_places(opcode);
-    if (common != 0) & ((token / 0x1000_0000 == 0) & (token / 0x1_0000 % 0x100 == 0)) {
-        return Head::Operation(common, (token / 0x100_0000 % 16) as usize);
-    }
     if opcode == 0xFFFE {
         return comment_head(token);
     }
@@ -121,138 +149,6 @@ pub fn read_head(version: Version, token: u32) -> Head
         return end_head(token);
     }
     shape_head(opcodes::shape_of(version, opcode), token)
-}
-
-// What an opcode is to the blocks.
-pub fn class_of(opcode: u32) -> Class
-    ensures { λ r. ⌜ r ≡ classOf opcode ⌝ }
-{
-    // most instructions compute, and have no opcode among those of the blocks
-    if (opcode < 25) | ((46 <= opcode) & (opcode <= 95)) {
-        return Class::One(Single::Plain);
-    }
-    if (opcode == 40) | (opcode == 41) {
-        return Class::Opens(Opener::If);
-    }
-    if opcode == 27 {
-        return Class::Opens(Opener::Loop);
-    }
-    if opcode == 38 {
-        return Class::Opens(Opener::Rep);
-    }
-    if opcode == 42 {
-        return Class::Closes(Closer::Else);
-    }
-    if opcode == 43 {
-        return Class::Closes(Closer::EndIf);
-    }
-    if opcode == 29 {
-        return Class::Closes(Closer::EndLoop);
-    }
-    if opcode == 39 {
-        return Class::Closes(Closer::EndRep);
-    }
-    if (opcode == 44) | ((opcode == 45) | (opcode == 96)) {
-        return Class::One(Single::Break);
-    }
-    if opcode == 30 {
-        return Class::One(Single::Label);
-    }
-    if opcode == 28 {
-        return Class::One(Single::Return);
-    }
-    Class::One(Single::Plain)
-}
-
-fn refused_operand(reason: Reason, position: usize) -> Taken
-    ensures { λ r. ⌜ r ≡ Taken.Refused (refusal reason position) ⌝ }
-{
-    Taken::Refused(Refusal { reason, position })
-}
-
-// The relative token that bit 13 brings, the token at `at` of those behind the instruction token.
-fn take_relative(version: Version, behind: &[u32], at: usize) -> Taken
-    requires { ⌜ at ≤ length (now behind) ⌝ }
-    ensures { λ r. ⌜ r ≡ relativeToken version (at + 1) (drop at (now (behind .entry))) ⌝ }
-{
-    if behind.len() <= at {
-        return refused_operand(Reason::Size, 0);
-    }
-    let judged = tokens::judge_token(version, RELATIVE, behind[at]);
-    match judged {
-        Token::Good => Taken::Took(2),
-        Token::Bad(reason) => refused_operand(reason, at + 1),
-    }
-}
-
-// The operand at `at` of the tokens behind the instruction token.
-fn take_operand(version: Version, place: u64, behind: &[u32], at: usize) -> Taken
-    requires { ⌜ at ≤ length (now behind) ⌝ }
-    ensures { λ r. ⌜ r ≡ operand version place (at + 1) (drop at (now (behind .entry))) ⌝ }
-{
-    if behind.len() <= at {
-        return refused_operand(Reason::Size, 0);
-    }
-    let token = behind[at];
-    let judged = tokens::judge_token(version, place, token);
-    match judged {
-        Token::Good => {}
-        Token::Bad(reason) => {
-            return refused_operand(reason, at + 1);
-        }
-    }
-    if tokens::brings_relative(place, token) {
-        return take_relative(version, behind, at + 1);
-    }
-    Taken::Took(1)
-}
-
-fn refused_operands(reason: Reason, position: usize) -> Operands
-    ensures { λ r. ⌜ r ≡ Operands.Refused (refusal reason position) ⌝ }
-{
-    Operands::Refused(Refusal { reason, position })
-}
-
-// The operands at these places, from left to right, and no token more.
-pub fn judge_operands(version: Version, places: u64, behind: &[u32]) -> Operands
-    ensures { λ r. ⌜ r ≡ operands version (decoded places) 1 (now (behind .entry)) ⌝ }
-{
-    let mut left = places;
-    let mut at = 0;
-    while left != 0 {
-        let taken = take_operand(version, left % 128, behind, at);
-        match taken {
-            Taken::Took(n) => {
-                at += n;
-            }
-            Taken::Refused(refusal) => {
-                return Operands::Refused(refusal);
-            }
-        }
-        left = left / 128;
-    }
-    if at == behind.len() {
-        return Operands::Fit;
-    }
-    refused_operands(Reason::Size, 0)
-}
-
-fn refused(reason: Reason) -> Judged
-    ensures { λ r. ⌜ r ≡ Judged.Refused (refusal reason 0) ⌝ }
-{
-    Judged::Refused(Refusal {
-        reason,
-        position: 0,
-    })
-}
-
-fn conclude(judged: Operands, size: usize, class: Class) -> Judged
-    ensures { λ r. ⌜ r ≡ onOperands judged size class ⌝ }
-{
-    match judged {
-        Operands::Fit => Judged::Good(size, class),
-        Operands::Refused(refusal) => Judged::Refused(refusal),
-    }
 }
 
 // How many tokens an instruction claims behind its first one. Nothing but a comment claims more than fifteen.
@@ -268,23 +164,263 @@ pub fn claim_of(head: Head) -> usize
     }
 }
 
-// An instruction of which the claimed tokens are there, judged. A comment's are not looked at.
-pub fn judge_claimed(version: Version, head: Head, first: u32, behind: &[u32]) -> Judged
-    ensures { λ r. ⌜ r ≡ judgedBy version head first (now (behind .entry)) ⌝ }
+// What an opcode is to the blocks, as a number.
+fn class_number(opcode: u32) -> u64
+    ensures { λ r. ⌜ r ≡ classNumber (classOf opcode) ⌝ }
 {
-    match head {
-        Head::Refused(reason) => refused(reason),
-        Head::End => Judged::Good(0, Class::Closes(Closer::End)),
-        Head::Comment(length) => Judged::Good(length, Class::One(Single::Comment)),
-        Head::Declaration(size) => {
-            let operands = dcl::judge_declaration(version, behind);
-            conclude(operands, size, class_of(first % 0x1_0000))
+    match opcode {
+        27 => 6,
+        28 => 4,
+        29 => 10,
+        30 => 3,
+        38 => 7,
+        39 => 11,
+        40 => 5,
+        41 => 5,
+        42 => 8,
+        43 => 9,
+        44 => 2,
+        45 => 2,
+        96 => 2,
+        _ => 1,
+    }
+}
+
+// A token's fault, the token being at `at` of those behind the instruction token.
+fn refused_at(told: u64, at: usize) -> u64
+    requires { ⌜ (told < 16) × (at < 16) ⌝ }
+    ensures { λ r. ⌜ r ≡ 32 * (at + 1) + (2 * told + 1) ⌝ }
+{
+    32 * (at as u64 + 1) + (2 * told + 1)
+}
+
+// The relative token that bit 13 brings, the token at `at` of those behind the instruction token.
+fn take_relative(version: Version, behind: &[u32], at: usize) -> u64
+    requires { ⌜ (at ≤ length (now behind)) × (length (now behind) < 16) ⌝ }
+    ensures { λ r. ⌜ r ≡ takenNumber (relativeToken version (at + 1) (drop at (now (behind .entry)))) ⌝ }
+{
+    if behind.len() <= at {
+        return SIZE;
+    }
+    let told = tokens::judge_relative(version, behind[at]);
+    if told == 0 {
+        return TWO_TAKEN;
+    }
+    refused_at(told, at)
+}
+
+// The operand at a free place, its token at `at` being told of already. Bit 13 brings a relative token.
+fn take_free(version: Version, told: u64, token: u32, behind: &[u32], at: usize) -> u64
+    requires { ⌜ (told < 16) × (at < length (now behind)) × (length (now behind) < 16) ⌝ }
+    ensures { λ r. ⌜ r ≡ pick (eqb told 0) (pick (eqb (bit 13 token) 1) (takenNumber (relativeToken version (at + 1 + 1) (drop (at + 1) (now (behind .entry))))) 2) (32 * (at + 1) + (2 * told + 1)) ⌝ }
+{
+    if told != 0 {
+        return refused_at(told, at);
+    }
+    if token / 0x2000 % 2 == 1 {
+        return take_relative(version, behind, at + 1);
+    }
+    ONE_TAKEN
+}
+
+// The operand at a place that is not free: one token.
+fn take_typed(told: u64, at: usize) -> u64
+    requires { ⌜ (told < 16) × (at < 16) ⌝ }
+    ensures { λ r. ⌜ r ≡ pick (eqb told 0) 2 (32 * (at + 1) + (2 * told + 1)) ⌝ }
+{
+    if told == 0 {
+        return ONE_TAKEN;
+    }
+    refused_at(told, at)
+}
+
+// The operand at `at` of the tokens behind the instruction token.
+fn take_operand(version: Version, place: u64, behind: &[u32], at: usize) -> u64
+    requires { ⌜ (at ≤ length (now behind)) × (length (now behind) < 16) ⌝ }
+    ensures { λ r. ⌜ r ≡ takenNumber (operand version place (at + 1) (drop at (now (behind .entry)))) ⌝ }
+{
+    if behind.len() <= at {
+        return SIZE;
+    }
+    let token = behind[at];
+    if place == FREE_SOURCE {
+        return take_free(
+            version,
+            tokens::judge_source(version, token),
+            token,
+            behind,
+            at,
+        );
+    }
+    if place == FREE_DESTINATION {
+        return take_free(
+            version,
+            tokens::judge_destination(version, token),
+            token,
+            behind,
+            at,
+        );
+    }
+    if place == RAW {
+        return ONE_TAKEN;
+    }
+    take_typed(tokens::judge_token(version, place, token), at)
+}
+
+// The operands at these places, from left to right, and no token more.
+fn judge_operands(version: Version, places: u64, behind: &[u32]) -> u64
+    requires { ⌜ length (now behind) < 16 ⌝ }
+    ensures { λ r. ⌜ r ≡ operandsNumber (operands version (decoded places) 1 (now (behind .entry))) ⌝ }
+{
+    let mut left = places;
+    let mut at = 0;
+    while left != 0 {
+        let taken = take_operand(version, left % 128, behind, at);
+        if taken % 2 == 1 {
+            return taken;
         }
-        Head::Operation(places, size) => {
-            let operands = judge_operands(version, places, behind);
-            conclude(operands, size, class_of(first % 0x1_0000))
+        at += (taken / 2) as usize;
+        left = left / 128;
+    }
+    if at == behind.len() {
+        return 0;
+    }
+    SIZE
+}
+
+// The two tokens of a DCL, and no token more.
+fn judge_declared(version: Version, behind: &[u32]) -> u64
+    ensures { λ r. ⌜ r ≡ operandsNumber (declaration version (now (behind .entry))) ⌝ }
+{
+    let operands = dcl::judge_declaration(version, behind);
+    match operands {
+        Operands::Fit => 0,
+        Operands::Refused(refusal) => {
+            let reason = refusal.reason;
+            32 * (refusal.position as u64) + (2 * (paper::number_of(reason) as u64) + 1)
         }
     }
+}
+
+// The operands of an instruction that claims these tokens.
+fn judge_claimed(version: Version, shape: u64, first: u32, behind: &[u32]) -> u64
+    requires { ⌜ length (now behind) < 16 ⌝ }
+    ensures { λ r. ⌜ r ≡ operandsNumber (operandsBy version shape first (now (behind .entry))) ⌝ }
+{
+    if first % 0x1_0000 == 31 {
+        return judge_declared(version, behind);
+    }
+    judge_operands(version, places_of(shape, first), behind)
+}
+
+// An instruction whose opcode has this shape, where the bits of its first token are as they must be.
+fn judge_listed(version: Version, shape: u64, first: u32, behind: &[u32]) -> u64
+    ensures { λ r. ⌜ r ≡ judgedNumber (listedIn version shape first (now (behind .entry))) ⌝ }
+{
+    let size = (first / 0x100_0000 % 16) as usize;
+    if behind.len() < size {
+        return RUN_OUT;
+    }
+    let told = judge_claimed(version, shape, first, &behind[..size]);
+    if told == 0 {
+        return 32 * (size as u64) + 2 * class_number(first % 0x1_0000);
+    }
+    told
+}
+
+// An instruction whose opcode is in no row of its version.
+fn judge_unlisted(first: u32, left: usize) -> u64
+    ensures { λ r. ⌜ r ≡ judgedNumber (unlistedIn first left) ⌝ }
+{
+    let opcode = first % 0x1_0000;
+    if opcode == 0xFFFE {
+        if first / 0x8000_0000 % 2 == 0 {
+            let length = (first / 0x1_0000 % 0x8000) as usize;
+            if left < length {
+                return RUN_OUT;
+            }
+            return 32 * (length as u64);
+        }
+        return BITS;
+    }
+    if opcode == 0xFFFF {
+        if first == 0xFFFF {
+            return ENDED;
+        }
+        return BITS;
+    }
+    OPCODE
+}
+
+// The instruction whose first token this is, where `left` tokens are left behind it. Of these the first fifteen are shown, or all:
+// nothing but a comment claims more, and a comment's are not looked at.
+pub fn judge_first(version: Version, first: u32, behind: &[u32], left: usize) -> u64
+    ensures { λ r. ⌜ r ≡ judgedNumber (judgedIn version first (now (behind .entry)) left) ⌝ }
+{
+    let shape = opcodes::shape_of(version, first % 0x1_0000);
+    if shape == 0 {
+        return judge_unlisted(first, left);
+    }
+    if bits_laid(shape, first) {
+        return judge_listed(version, shape, first, &behind[0..]);
+    }
+    BITS
+}
+
+fn class_by(number: u64) -> Class
+    ensures { λ r. ⌜ r ≡ classBy number ⌝ }
+{
+    match number {
+        0 => Class::One(Single::Comment),
+        1 => Class::One(Single::Plain),
+        2 => Class::One(Single::Break),
+        3 => Class::One(Single::Label),
+        4 => Class::One(Single::Return),
+        5 => Class::Opens(Opener::If),
+        6 => Class::Opens(Opener::Loop),
+        7 => Class::Opens(Opener::Rep),
+        8 => Class::Closes(Closer::Else),
+        9 => Class::Closes(Closer::EndIf),
+        10 => Class::Closes(Closer::EndLoop),
+        11 => Class::Closes(Closer::EndRep),
+        _ => Class::Closes(Closer::End),
+    }
+}
+
+fn reason_by(number: u64) -> Reason
+    ensures { λ r. ⌜ r ≡ reasonBy number ⌝ }
+{
+    match number {
+        1 => Reason::Length,
+        2 => Reason::Version,
+        3 => Reason::Opcode,
+        4 => Reason::Bits,
+        5 => Reason::RunOut,
+        6 => Reason::Size,
+        7 => Reason::Operand,
+        8 => Reason::Register,
+        9 => Reason::Block,
+        10 => Reason::Depth,
+        11 => Reason::Tail,
+        12 => Reason::Place,
+        13 => Reason::Room,
+        _ => Reason::Record,
+    }
+}
+
+// What such a number tells.
+pub fn judged_of(told: u64) -> Judged
+    ensures { λ r. ⌜ r ≡ judgedFrom told ⌝ }
+{
+    if told % 2 == 1 {
+        let reason = reason_by(told / 2 % 16);
+        return Judged::Refused(Refusal {
+            reason,
+            position: (told / 32) as usize,
+        });
+    }
+    let class = class_by(told / 2 % 16);
+    Judged::Good((told / 32) as usize, class)
 }
 
 // The instruction at the front of these tokens, judged.
@@ -292,13 +428,8 @@ pub fn judge(version: Version, tokens: &[u32]) -> Judged
     ensures { λ r. ⌜ r ≡ judged version (now (tokens .entry)) ⌝ }
 {
     if tokens.len() == 0 {
-        return refused(Reason::RunOut);
+        return judged_of(RUN_OUT);
     }
-    let first = tokens[0];
-    let head = read_head(version, first);
-    let claim = claim_of(head);
-    if claim < tokens.len() {
-        return judge_claimed(version, head, first, &tokens[1..claim + 1]);
-    }
-    refused(Reason::RunOut)
+    let told = judge_first(version, tokens[0], &tokens[1..], tokens.len() - 1);
+    judged_of(told)
 }

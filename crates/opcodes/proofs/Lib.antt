@@ -1,5 +1,4 @@
 -- What the proofs of the functions share, and the laws that callers use.
-pub mod Decided
 pub mod Computed
 pub mod Table
 pub mod Decoding

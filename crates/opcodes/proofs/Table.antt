@@ -1,19 +1,21 @@
--- The rows that the code decides by are the paper's table: below 97 by one computed test, from 97 on since both name smaller opcodes only.
-use Prim.Native.Nat.{ℕ, _+_, _/_, _%_, _^_, _≤_, _<_}
-use mathlib.Core.Path.{_≡_, refl, sym, _∙_}
-use mathlib.Core.Bool.{Bool, true, false, not, _&&_, _||_}
+-- The code's rows are the paper's table: below 97 by one computed test, from 97 on since the table names smaller opcodes only.
+use Prim.Native.Nat.{ℕ, zero, suc, _+_, _*_, _/_, _%_, _^_, _≤_, _<_}
+use mathlib.Core.Path.{_≡_, refl, sym}
+use mathlib.Core.Bool.{Bool, true, false, _&&_}
 use mathlib.Core.List.{List, [], _∷_}
+use mathlib.Core.Logic.{⊎-elim}
+use native.Mathlib.Nat.{eq-or-lt-of-le}
 use native.Mathlib.Omega.{arith}
-use lib.Dec.{eqb, leb, ltb}
-use borrow.Author.Tests.{eq-eqb, ne-eqb, ltb-true, le-leb, leb-false, eqb-true, not-true}
-use Rattle.paper.specs.Notation.{pick, among, holds}
+use lib.Dec.{eqb, ltb}
+use borrow.Author.Tests.{ne-eqb, ltb-true, eqb-true}
+use Rattle.paper.specs.Notation.{pick, among}
 use Rattle.paper.specs.Versions.{rank}
-use Rattle.paper.specs.OpcodeTable.{DCL, DEF, Row, absent, lookup, isOne, rows, entryOf}
-use Rattle.paper.specs.OperandTokens.{raw, usage, destinationOf, freeDestination, typedPlaces}
+use Rattle.paper.specs.OpcodeTable.{SINCOS, Row, absent, lookup, isOne, rows, entryOf}
+use Rattle.paper.specs.OperandTokens.{typedPlaces}
 use Rattle.paper.specs.declared.Version.{Version}
 use Rattle.paper.specs.declared.Version.the-variants.{V2, V3, P2, P3}
-use Rattle.opcodes.specs.Shape.{digits, shapeOf}
-use Rattle.opcodes.specs.Rows.{Decisions, none, test, orOneOf, oneOf, decided, fromNone, third, shapeAt, commonPlaces}
+use Rattle.opcodes.specs.Shape.{shapeOf}
+use Rattle.opcodes.specs.Rows.{rowOf}
 use Rattle.paper.proofs.Below.{both-left, both-right}
 use Rattle.opcodes.proofs.Computed.{computed}
 
@@ -31,26 +33,9 @@ not-among opcode (x ∷ xs) h t =
     let less : x < limit = ltb-true x limit (both-left (ltb x limit) (small xs) t) in
     rw (ne-eqb opcode x (λ e. omega arith)) (not-among opcode xs h (both-right (ltb x limit) (small xs) t))
 
-or-assoc : (a b c : Bool) → (a || b) || c ≡ a || (b || c)
-or-assoc true b c = refl
-or-assoc false b c = refl
-
-or-false : (b : Bool) → b || false ≡ b
-or-false true = refl
-or-false false = refl
-
 and-false : (b : Bool) → b && false ≡ false
 and-false true = refl
 and-false false = refl
-
-orOneOf-among : (found : Bool) (opcode : ℕ) (xs : List ℕ) → orOneOf found opcode xs ≡ found || among opcode xs
-orOneOf-among found opcode [] = sym (or-false found)
-orOneOf-among found opcode (x ∷ xs) =
-    orOneOf-among (found || eqb opcode x) opcode xs ∙ or-assoc found (eqb opcode x) (among opcode xs)
-
-oneOf-among : (opcode : ℕ) (xs : List ℕ) → oneOf opcode xs ≡ among opcode xs
-oneOf-among opcode [] = refl
-oneOf-among opcode (x ∷ xs) = orOneOf-among (eqb opcode x) opcode xs
 
 abbrev smallRows : List Row → Bool
 smallRows [] = true
@@ -62,96 +47,66 @@ not-listed v opcode (r ∷ rs) h t =
     rw (not-among opcode (r .opcodes) h (both-left (small (r .opcodes)) (smallRows rs) t), and-false (isOne v (r .versions)))
     (not-listed v opcode rs h (both-right (small (r .opcodes)) (smallRows rs) t))
 
-abbrev smallTests : Decisions → Bool
-smallTests none = true
-smallTests (test xs row rest) = small xs && smallTests rest
-
-not-decided : (opcode : ℕ) (ds : Decisions) → limit ≤ opcode → smallTests ds ≡ true → decided ds opcode ≡ 0
-unfolding decided
-not-decided opcode none h t = refl
-not-decided opcode (test xs row rest) h t =
-    rw (oneOf-among opcode xs, not-among opcode xs h (both-left (small xs) (smallTests rest) t))
-    (not-decided opcode rest h (both-right (small xs) (smallTests rest) t))
-
 pub beyond : (v : Version) (opcode : ℕ) → limit ≤ opcode → entryOf v opcode ≡ absent
 unfolding rows entryOf
 beyond v opcode h = not-listed v opcode rows h refl
 
-no-shape : (v : Version) → shapeAt (rank v) 0 ≡ 0
-no-shape V2 = refl
-no-shape V3 = refl
-no-shape P2 = refl
-no-shape P3 = refl
+row-beyond : (opcode : ℕ) → limit ≤ opcode → rowOf opcode ≡ 0
+unfolding rowOf
+row-beyond opcode h = rw (beyond V2 opcode h, beyond P3 opcode h) refl
 
--- what the code finds for a version and an opcode
-abbrev found : Version → ℕ → ℕ
-found v opcode = shapeAt (rank v) (decided (fromNone (third (rank v))) opcode)
+-- what the code knows behind its arms: the opcode is none of those below n that have a row
+abbrev Passed : ℕ → ℕ → Bool → Type 0 → Type 0
+Passed opcode n true others = others
+Passed opcode n false others = others × (opcode ≡ n → ⊥)
 
-found-beyond : (v : Version) (opcode : ℕ) → limit ≤ opcode → found v opcode ≡ shapeOf v opcode
+abbrev pub NoneBelow : ℕ → ℕ → Type 0
+NoneBelow opcode zero = Unit
+NoneBelow opcode (suc n) = Passed opcode n (eqb (rowOf n) 0) (NoneBelow opcode n)
+
+passed-at : (opcode n : ℕ) (without : Bool) (others : Type 0) →
+    eqb (rowOf n) 0 ≡ without → Passed opcode n without others → (n ≡ opcode → rowOf opcode ≡ 0) × others
+passed-at opcode n true others t rest = (λ e. rw e at (eqb-true (rowOf n) 0 t), rest)
+passed-at opcode n false others t rest = (λ e. absurd (rest .1 (sym e)), rest .0)
+
+no-row-from : (opcode n : ℕ) → (n ≤ opcode → rowOf opcode ≡ 0) → NoneBelow opcode n → rowOf opcode ≡ 0
+no-row-from opcode zero from rest = from (omega arith)
+no-row-from opcode (suc n) from rest =
+    let passed = passed-at opcode n (eqb (rowOf n) 0) (NoneBelow opcode n) refl rest in
+    no-row-from opcode n (λ h. ⊎-elim (passed .0) from (eq-or-lt-of-le h)) (passed .1)
+
+pub no-row : (opcode : ℕ) → NoneBelow opcode limit → rowOf opcode ≡ 0
+no-row opcode rest = no-row-from opcode limit (row-beyond opcode) rest
+
+-- what the code finds for the version of a rank, by the row of an opcode: none where the version's bit is zero, but for SINCOS; a step only in V3 and P3
+abbrev pub found : ℕ → ℕ → ℕ → ℕ
+found n opcode row =
+    pick (eqb (row / 2 ^ n % 2) 0) (pick (eqb opcode SINCOS && eqb (n % 2) 1) (shapeOf V3 SINCOS) 0)
+    (pick (eqb (n % 2) 1) (row / 16) (row / 16 / 2 ^ 38 * 2 ^ 38 + row / 16 % 2 ^ 35))
+
+abbrev right : Version → ℕ → Bool
+right v opcode = eqb (found (rank v) opcode (rowOf opcode)) (shapeOf v opcode)
+
+right-beyond : (v : Version) (opcode : ℕ) → limit ≤ opcode → right v opcode ≡ true
 unfolding shapeOf
-found-beyond v opcode h =
-    rw (beyond v opcode h, not-decided opcode (fromNone (third (rank v))) h refl) (no-shape v)
+right-beyond v opcode h = rw (beyond v opcode h, row-beyond opcode h, ne-eqb opcode SINCOS (λ e. omega arith)) (by v)
+  where
+    by : (v : Version) → eqb (found (rank v) limit 0) 0 ≡ true
+    by V2 = refl
+    by V3 = refl
+    by P2 = refl
+    by P3 = refl
 
-agrees : (v : Version) (opcode : ℕ) → eqb (found v opcode) (shapeOf v opcode) ≡ true
-unfolding rows entryOf typedPlaces shapeOf decided
-agrees =
-    computed (λ v opcode. eqb (found v opcode) (shapeOf v opcode)) limit refl
-    (λ v opcode h. eq-eqb (found v opcode) (shapeOf v opcode) (found-beyond v opcode h))
+agrees : (v : Version) (opcode : ℕ) → right v opcode ≡ true
+unfolding rows entryOf typedPlaces shapeOf rowOf
+agrees = computed right limit refl right-beyond
 
--- what the code looks up, step by step, is what the paper's table says
-pub looked-up : (v : Version) (opcode n row r : ℕ) →
-    n ≡ rank v → row ≡ decided (fromNone (third n)) opcode → r ≡ shapeAt n row → r ≡ shapeOf v opcode
-looked-up v opcode n row r hn hr h = h ∙ rw (hr, hn) (eqb-true (found v opcode) (shapeOf v opcode) (agrees v opcode))
+-- what the code finds is what the paper's table says
+pub looked-up : (v : Version) (opcode n row : ℕ) → n ≡ rank v → row ≡ rowOf opcode → found n opcode row ≡ shapeOf v opcode
+looked-up v opcode n row hn hr = rw (hr, hn) (eqb-true _ (shapeOf v opcode) (agrees v opcode))
 
 pub rank-small : (v : Version) (n : ℕ) → n ≡ rank v → n < 4
 rank-small V2 n h = omega arith
 rank-small V3 n h = omega arith
 rank-small P2 n h = omega arith
 rank-small P3 n h = omega arith
-
--- the places that are found among the commonest are the table's, and the controls of such an opcode are zero
-abbrev commonRight : Version → ℕ → Bool
-commonRight v opcode =
-    pick (eqb (commonPlaces opcode) 0) true
-    (eqb (shapeOf v opcode % 2 ^ 35) (commonPlaces opcode)
-    && (eqb (shapeOf v opcode / 2 ^ 38 % 4) 0 && not (eqb (shapeOf v opcode) 0)))
-
-common-right : (v : Version) (opcode : ℕ) → commonRight v opcode ≡ true
-unfolding rows entryOf typedPlaces shapeOf holds
-common-right = computed commonRight 25 refl (λ v opcode h. rw (le-leb 25 opcode h))
-
-pub record Common (v : Version) (opcode : ℕ) : Type 0 where
-  pub low : opcode < 25
-  pub places : shapeOf v opcode % 2 ^ 35 ≡ commonPlaces opcode
-  pub rule : shapeOf v opcode / 2 ^ 38 % 4 ≡ 0
-  pub listed : eqb (shapeOf v opcode) 0 ≡ false
-
-low-by : (opcode : ℕ) (high : Bool) → leb 25 opcode ≡ high → (commonPlaces opcode ≡ 0 → ⊥) → opcode < 25
-low-by opcode true h some = absurd (some (rw h refl))
-low-by opcode false h some = leb-false 25 opcode h
-
-pub common : (v : Version) (opcode : ℕ) → (commonPlaces opcode ≡ 0 → ⊥) → Common v opcode
-common v opcode some =
-    let t = rw (ne-eqb (commonPlaces opcode) 0 some) at (common-right v opcode) in
-    let rest = both-right (eqb (shapeOf v opcode % 2 ^ 35) (commonPlaces opcode)) _ t in
-    record {
-      low = low-by opcode (leb 25 opcode) refl some;
-      places = eqb-true (shapeOf v opcode % 2 ^ 35) (commonPlaces opcode) (both-left _ _ t);
-      rule = eqb-true (shapeOf v opcode / 2 ^ 38 % 4) 0 (both-left _ _ rest);
-      listed = not-true (eqb (shapeOf v opcode) 0) (both-right (eqb (shapeOf v opcode / 2 ^ 38 % 4) 0) _ rest);
-    }
-
--- DCL and DEF have one shape in every version
-pub dcl-shape : (v : Version) → shapeOf v DCL ≡ digits (usage ∷ freeDestination ∷ []) + 2 ^ 40
-unfolding rows entryOf typedPlaces shapeOf
-dcl-shape V2 = refl
-dcl-shape V3 = refl
-dcl-shape P2 = refl
-dcl-shape P3 = refl
-
-pub def-shape : (v : Version) → shapeOf v DEF ≡ digits (destinationOf 2 ∷ raw ∷ raw ∷ raw ∷ raw ∷ []) + 2 ^ 40
-unfolding rows entryOf typedPlaces shapeOf
-def-shape V2 = refl
-def-shape V3 = refl
-def-shape P2 = refl
-def-shape P3 = refl

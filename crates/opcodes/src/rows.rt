@@ -157,15 +157,3 @@ pub(crate) const DEF_ALL: u64 = DEF + ALL;
 pub(crate) const DEFI_BUT_P2: u64 = DEFI + ALL_BUT_P2;
 
 pub(crate) const DEFB_BUT_P2: u64 = DEFB + ALL_BUT_P2;
-
-// The commonest places.
-pub const DS_PLACES: u64 = D + NEXT * S;
-
-pub const DSS_PLACES: u64 = D + NEXT * (S + NEXT * S);
-
-pub const DSSS_PLACES: u64 = D + NEXT * (S + NEXT * (S + NEXT * S));
-
-// Shapes that every version has.
-pub const DCL_SHAPE: u64 = DCL / 16;
-
-pub const DEF_SHAPE: u64 = DEF / 16;

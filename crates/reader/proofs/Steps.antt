@@ -1,5 +1,5 @@
 -- The reading at a place, by the head of the instruction there and the tokens that it claims.
-use mathlib.Core.Path.{_≡_, ap, _∙_}
+use mathlib.Core.Path.{_≡_, sym, ap, _∙_}
 use mathlib.Core.List.{List, _∷_}
 use Prim.Native.Nat.{ℕ, suc, _+_, _-_, _≤_, _<_}
 use native.Mathlib.Numerals.{add-one}
@@ -15,10 +15,14 @@ use Rattle.paper.specs.declared.Version.{Version}
 use Rattle.paper.specs.declared.Reason.the-variants.{RunOut as RUN-OUT}
 use Rattle.paper.specs.declared.Refusal.{Refusal}
 use Rattle.paper.specs.declared.Class.{Class}
+use Rattle.paper.specs.declared.Judged.{Judged}
 use Rattle.paper.specs.declared.Judged.the-variants.{Good as Lawful, Refused as Unlawful}
 use Rattle.instruction.specs.declared.Head.{Head}
 use Rattle.instruction.specs.Encoded.{encoded, claimOf, judgedBy}
+use Rattle.instruction.specs.Numbered.{judgedNumber, judgedFrom, judgedIn}
 use Rattle.instruction.proofs.Heads.{judged-some}
+use Rattle.instruction.proofs.Numbers.{judged-back}
+use Rattle.instruction.proofs.Judging.{judged-claimed}
 use Rattle.records.specs.Record.{recordOf}
 use Rattle.records.specs.Encoded.{placesOf, recordBy, Readable}
 use Rattle.records.proofs.Readable.{record-by-head, readable, claim-good}
@@ -52,6 +56,17 @@ module _ (v : Version) (s : List ℕ) (at : ℕ) (some : at < length s) (h : Hea
     here : judged v (drop at s) ≡ judgedBy v h (getD s at 0) behind
     here = rw (judged-here, length-drop (at + 1) s, le-leb claim (length s - (at + 1)) there, whole)
 
+    long : length behind ≡ claim
+    long = ap length whole ∙ length-take-le claim (drop (at + 1) s) (rw (length-drop (at + 1) s) there)
+
+    -- what is told of the claimed tokens
+    pub told-here : (told : ℕ) (j : Judged) → told ≡ judgedNumber (judgedIn v (getD s at 0) behind claim) → j ≡ judgedFrom told →
+        judgedBy v h (getD s at 0) behind ≡ j
+    told-here told j told-is j-is =
+        let same : judgedIn v (getD s at 0) behind claim ≡ judgedBy v h (getD s at 0) behind =
+        rw head-is (judged-claimed v (getD s at 0) behind claim (rw head-is at claim-is) long) in
+        sym (j-is ∙ ap judgedFrom told-is ∙ judged-back (judgedIn v (getD s at 0) behind claim) ∙ same)
+
     pub reads : (size : ℕ) (class : Class) → judgedBy v h (getD s at 0) behind ≡ Lawful size class →
         readingAt v s at ≡ got (at + size + 1) (recordBy h (getD s at 0) behind)
     unfolding readingAt
@@ -72,5 +87,4 @@ module _ (v : Version) (s : List ℕ) (at : ℕ) (some : at < length s) (h : Hea
     pub position-fits : (r : Refusal) → judgedBy v h (getD s at 0) behind ≡ Unlawful r → at + r .position < length s
     position-fits r j =
         let inside = refused-within v r h (getD s at 0) behind j in
-        let long : length behind ≡ claim = ap length whole ∙ length-take-le claim (drop (at + 1) s) (rw (length-drop (at + 1) s) there) in
-        omega arith
+        omega (arith, long)

@@ -47,7 +47,8 @@ fn read_at(version: Version, tokens: &[u32], at: usize) -> Reading
         return refused_at(Reason::RunOut, at);
     }
     let end = from + claim;
-    let judged = instruction::judge_claimed(version, head, first, &tokens[from..end]);
+    let told = instruction::judge_first(version, first, &tokens[from..end], claim);
+    let judged = instruction::judged_of(told);
     match judged {
         Judged::Good(size, _) => {
             let instruction = records::read_record(head, first, &tokens[from..end]);

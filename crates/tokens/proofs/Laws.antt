@@ -1,18 +1,22 @@
 -- Laws of one token at its place.
-use mathlib.Core.Path.{_≡_, refl}
-use mathlib.Core.Bool.{Bool, true, false}
+use mathlib.Core.Path.{_≡_, refl, sym}
+use mathlib.Core.Bool.{Bool, true, false, not, _&&_, _||_}
 use Prim.Native.Nat.{ℕ, zero, suc, _*_, _%_, _^_, _<_, _≤_}
 use native.Mathlib.Nat.{one-mul, mod-eq-of-lt, pow-le-pow-right}
 use native.Mathlib.Omega.{arith}
 use lib.Dec.{eqb, leb, lit<}
-use borrow.Author.Tests.{eqb-true, leb-true}
+use borrow.Author.Tests.{eqb-true, leb-true, ne-eqb}
 use Rattle.paper.specs.Notation.{bits, bit, pick, holds}
-use Rattle.paper.specs.OperandTokens.{raw, freeSource, freeDestination, modifierOf, plainModifiers, freeSourceTypes, freeDestinationTypes, laid, typesAt, typeOf, layoutThenType, tokenAt}
+use Rattle.paper.specs.Versions.{isPixel, isThird}
+use Rattle.paper.specs.OperandTokens.{raw, freeSource, freeDestination, modifierOf, plainModifiers, bothLaid, mayBeRelative, relativeLaid, modifierLaid, destinationLaid, sourceLaid, isDestination, laid, conditionTypes, relativeTypes, typesAt, typeOf, layoutThenType, tokenAt, bringsRelative}
+use Rattle.paper.specs.Numbers.{toldToken}
 use Rattle.paper.specs.declared.Version.{Version}
 use Rattle.paper.specs.declared.Version.the-variants.{V2, V3, P2, P3}
-use Rattle.paper.specs.declared.Token.the-variants.{Good}
+use Rattle.paper.specs.declared.Reason.the-variants.{Length, Version as VERSION, Opcode, Bits, RunOut, Size, Operand, Register, Block, Depth, Tail, Place, Room, Record}
+use Rattle.paper.specs.declared.Token.{Token}
+use Rattle.paper.specs.declared.Token.the-variants.{Good, Bad}
 use Rattle.paper.proofs.Below.{both-left, both-right, below, below-at}
-use Rattle.tokens.specs.Plain.{plainSource, plainTemporary}
+use Rattle.tokens.specs.Plain.{plainSource, plainDestination}
 
 -- at any place but a raw one: layout, then type
 pub not-raw : (v : Version) (place token : ℕ) → eqb place raw ≡ false →
@@ -41,62 +45,168 @@ unnegated zero h = refl
 unnegated (suc zero) h = refl
 unnegated (suc (suc n)) h = absurd (omega arith)
 
--- what a vertex version allows as a source, a pixel version does too
-abbrev alsoPixel : ℕ → Bool
-alsoPixel k = pick (holds (freeSourceTypes V2) k) (holds (freeSourceTypes P2) k) true
-
-also-pixel : below alsoPixel 32 ≡ true
-unfolding holds
-also-pixel = refl
-
-every-version : (v : Version) (k : ℕ) → k < 32 → holds (freeSourceTypes V2) k ≡ true → holds (freeSourceTypes v) k ≡ true
-every-version V2 k h t = t
-every-version V3 k h t = t
-every-version P2 k h t = rw t at (below-at alsoPixel 32 k also-pixel h)
-every-version P3 k h t = rw t at (below-at alsoPixel 32 k also-pixel h)
-
-pub plain-source-good : (v : Version) (token : ℕ) → plainSource token ≡ true → Good ≡ tokenAt v freeSource token
-unfolding tokenAt
-plain-source-good v token t₀ =
+-- what is plain is laid as every version allows
+pub plain-source-laid : (v : Version) (token : ℕ) → plainSource token ≡ true → sourceLaid v freeSource token ≡ true
+plain-source-laid v token t₀ =
     let t₁ = both-right (eqb (bits 15 14 token) 0) _ t₀ in
-    let t₂ = both-right (eqb (bit 31 token) 1) _ t₁ in
-    let t₃ = both-right (eqb (bit 13 token) 0) _ t₂ in
-    let modifier : bits 27 24 token ≤ 1 = leb-true (bits 27 24 token) 1 (both-left (leb (bits 27 24 token) 1) _ t₃) in
-    let kind : typeOf token < 32 = omega arith in
+    let t₂ = both-right (eqb (bit 13 token) 0) _ t₁ in
+    let modifier : bits 27 24 token ≤ 1 = leb-true (bits 27 24 token) 1 (both-left (leb (bits 27 24 token) 1) _ t₂) in
     rw (
       both-left (eqb (bits 15 14 token) 0) _ t₀,
-      both-left (eqb (bit 31 token) 1) _ t₁,
-      both-left (eqb (bit 13 token) 0) _ t₂,
+      both-left (eqb (bit 13 token) 0) _ t₁,
+      both-right (leb (bits 27 24 token) 1) _ t₂,
       unnegated (modifierOf token) modifier,
-      every-version v (typeOf token) kind (both-right (leb (bits 27 24 token) 1) _ t₃),
     )
 
-temporary : (v : Version) → holds (freeDestinationTypes v) 0 ≡ true
-unfolding holds
-temporary V2 = refl
-temporary V3 = refl
-temporary P2 = refl
-temporary P3 = refl
-
-pub plain-temporary-good : (v : Version) (token : ℕ) → plainTemporary token ≡ true → Good ≡ tokenAt v freeDestination token
-unfolding tokenAt
-plain-temporary-good v token t₀ =
+pub plain-destination-laid : (v : Version) (token : ℕ) → plainDestination token ≡ true → destinationLaid v freeDestination token ≡ true
+plain-destination-laid v token t₀ =
     let t₁ = both-right (eqb (bits 15 14 token) 0) _ t₀ in
-    let t₂ = both-right (eqb (bit 31 token) 1) _ t₁ in
-    let t₃ = both-right (eqb (bit 13 token) 0) _ t₂ in
-    let t₄ = both-right (eqb (bits 22 21 token) 0) _ t₃ in
-    let t₅ = both-right (eqb (bit 23 token) 0) _ t₄ in
-    let t₆ = both-right (eqb (bits 27 24 token) 0) _ t₅ in
-    let high : bits 30 28 token ≡ 0 = eqb-true (bits 30 28 token) 0 (both-left (eqb (bits 30 28 token) 0) _ t₆) in
-    let low : bits 12 11 token ≡ 0 = eqb-true (bits 12 11 token) 0 (both-right (eqb (bits 30 28 token) 0) _ t₆) in
-    let kind : typeOf token ≡ 0 = omega arith in
+    let t₂ = both-right (eqb (bit 13 token) 0) _ t₁ in
+    let t₃ = both-right (eqb (bits 22 21 token) 0) _ t₂ in
+    let t₄ = both-right (eqb (bit 23 token) 0) _ t₃ in
     rw (
       both-left (eqb (bits 15 14 token) 0) _ t₀,
-      both-left (eqb (bit 31 token) 1) _ t₁,
-      both-left (eqb (bit 13 token) 0) _ t₂,
-      both-left (eqb (bits 22 21 token) 0) _ t₃,
-      both-left (eqb (bit 23 token) 0) _ t₄,
-      both-left (eqb (bits 27 24 token) 0) _ t₅,
-      kind,
-      temporary v,
+      both-left (eqb (bit 13 token) 0) _ t₁,
+      both-left (eqb (bits 22 21 token) 0) _ t₂,
+      both-left (eqb (bit 23 token) 0) _ t₃,
+      both-left (eqb (bits 27 24 token) 0) _ t₄,
+      both-right (eqb (bits 27 24 token) 0) _ t₄,
     )
+
+-- the same tests in another order
+both-order : (a b c d e : Bool) → a && (b && (c && (d && e))) ≡ (a && (c && d)) && (b && e)
+both-order false b c d e = refl
+both-order true true true d e = refl
+both-order true true false d e = refl
+both-order true false true true e = refl
+both-order true false true false e = refl
+both-order true false false d e = refl
+
+pub destination-order : (v : Version) (place token : ℕ) → destinationLaid v place token ≡
+    (bothLaid token && (eqb (bit 23 token) 0 && eqb (bits 27 24 token) 0)) && ((eqb (bits 22 21 token) 0 || isPixel v) && relativeLaid v place token)
+destination-order v place token =
+    both-order (bothLaid token) (eqb (bits 22 21 token) 0 || isPixel v) (eqb (bit 23 token) 0) (eqb (bits 27 24 token) 0) (relativeLaid v place token)
+
+result-last : (a b c d e : Bool) → a && (b && (c && (d && (e || false)))) ≡ (a && (c && (d && e))) && b
+result-last false b c d e = refl
+result-last true true true true true = refl
+result-last true true true true false = refl
+result-last true true true false e = refl
+result-last true true false d e = refl
+result-last true false true true true = refl
+result-last true false true true false = refl
+result-last true false true false e = refl
+result-last true false false d e = refl
+
+pub typed-destination-order : (v : Version) (place token : ℕ) → mayBeRelative v place ≡ false → destinationLaid v place token ≡
+    (bothLaid token && (eqb (bit 23 token) 0 && (eqb (bits 27 24 token) 0 && eqb (bit 13 token) 0))) && (eqb (bits 22 21 token) 0 || isPixel v)
+typed-destination-order v place token n =
+    rw n (result-last (bothLaid token) (eqb (bits 22 21 token) 0 || isPixel v) (eqb (bit 23 token) 0) (eqb (bits 27 24 token) 0) (eqb (bit 13 token) 0))
+
+modifier-last : (a m e : Bool) → a && (m && (e || false)) ≡ (a && e) && m
+modifier-last false m e = refl
+modifier-last true true true = refl
+modifier-last true true false = refl
+modifier-last true false true = refl
+modifier-last true false false = refl
+
+pub typed-source-order : (v : Version) (place token : ℕ) → mayBeRelative v place ≡ false → sourceLaid v place token ≡
+    (bothLaid token && eqb (bit 13 token) 0) && modifierLaid place (modifierOf token) (typeOf token)
+typed-source-order v place token n =
+    rw n (modifier-last (bothLaid token) (modifierLaid place (modifierOf token) (typeOf token)) (eqb (bit 13 token) 0))
+
+-- sets of one or two types, as tests of a type
+abbrev same : Bool → Bool → Bool
+same true b = b
+same false b = not b
+
+same-true : (a b : Bool) → same a b ≡ true → a ≡ b
+same-true true true t = refl
+same-true true false t = sym t
+same-true false true t = t
+same-true false false t = refl
+
+abbrev isCondition : Version → ℕ → Bool
+isCondition v k = pick (eqb k 14) true (pick (eqb k 19) (isThird v) false)
+
+abbrev conditionRule : Version → ℕ → Bool
+conditionRule v k = same (holds (conditionTypes v) k) (isCondition v k)
+
+conditions : (v : Version) → below (conditionRule v) 32 ≡ true
+unfolding holds
+conditions V2 = refl
+conditions V3 = refl
+conditions P2 = refl
+conditions P3 = refl
+
+pub condition-type : (v : Version) (k : ℕ) → k < 32 → holds (conditionTypes v) k ≡ isCondition v k
+condition-type v k h = same-true (holds (conditionTypes v) k) (isCondition v k) (below-at (conditionRule v) 32 k (conditions v) h)
+
+abbrev isRelative : Version → ℕ → Bool
+isRelative v k = pick (eqb k 15) true (pick (eqb k 3) (holds (relativeTypes v) 3) false)
+
+abbrev relativeRule : Version → ℕ → Bool
+relativeRule v k = same (holds (relativeTypes v) k) (isRelative v k)
+
+relatives : (v : Version) → below (relativeRule v) 32 ≡ true
+unfolding holds
+relatives V2 = refl
+relatives V3 = refl
+relatives P2 = refl
+relatives P3 = refl
+
+pub relative-type : (v : Version) (k : ℕ) → k < 32 → holds (relativeTypes v) k ≡ isRelative v k
+relative-type v k h = same-true (holds (relativeTypes v) k) (isRelative v k) (below-at (relativeRule v) 32 k (relatives v) h)
+
+-- "Bit 13 may be one only at places called free"
+pub typed-not-relative : (v : Version) (place : ℕ) → (place ≡ freeSource → ⊥) → (place ≡ freeDestination → ⊥) → mayBeRelative v place ≡ false
+typed-not-relative v place s d = rw (ne-eqb place freeSource s, ne-eqb place freeDestination d)
+
+pub told-good : (t : Token) → toldToken t ≡ 0 → t ≡ Good
+told-good Good e = refl
+told-good (Bad Length) e = absurd (omega arith)
+told-good (Bad VERSION) e = absurd (omega arith)
+told-good (Bad Opcode) e = absurd (omega arith)
+told-good (Bad Bits) e = absurd (omega arith)
+told-good (Bad RunOut) e = absurd (omega arith)
+told-good (Bad Size) e = absurd (omega arith)
+told-good (Bad Operand) e = absurd (omega arith)
+told-good (Bad Register) e = absurd (omega arith)
+told-good (Bad Block) e = absurd (omega arith)
+told-good (Bad Depth) e = absurd (omega arith)
+told-good (Bad Tail) e = absurd (omega arith)
+told-good (Bad Place) e = absurd (omega arith)
+told-good (Bad Room) e = absurd (omega arith)
+told-good (Bad Record) e = absurd (omega arith)
+
+told-laid : (l t : Bool) → toldToken (layoutThenType l t) ≡ 0 → l ≡ true
+told-laid true t e = refl
+told-laid false t e = absurd (omega arith)
+
+or-false : (b : Bool) → b || false ≡ true → b ≡ true
+or-false true t = t
+or-false false t = t
+
+zero-not-one : (n : ℕ) → eqb n 0 || false ≡ true → eqb n 1 ≡ false
+zero-not-one n t = rw (eqb-true n 0 (or-false (eqb n 0) t))
+
+laid-not-relative : (v : Version) (place token : ℕ) → mayBeRelative v place ≡ false → (b : Bool) →
+    pick b (destinationLaid v place token) (sourceLaid v place token) ≡ true → eqb (bit 13 token) 1 ≡ false
+laid-not-relative v place token n true t =
+    let t₁ = both-right (bothLaid token) _ t in
+    let t₂ = both-right (eqb (bits 22 21 token) 0 || isPixel v) _ t₁ in
+    let t₃ = both-right (eqb (bit 23 token) 0) _ t₂ in
+    zero-not-one (bit 13 token) (rw n at (both-right (eqb (bits 27 24 token) 0) _ t₃))
+laid-not-relative v place token n false t =
+    zero-not-one (bit 13 token) (rw n at (both-right (modifierLaid place (modifierOf token) (typeOf token)) _ (both-right (bothLaid token) _ t)))
+
+-- a token that is good at a place that is not free brings no relative one
+pub not-free-not-relative : (v : Version) (place token : ℕ) → (place ≡ freeSource → ⊥) → (place ≡ freeDestination → ⊥) →
+    toldToken (tokenAt v place token) ≡ 0 → bringsRelative place token ≡ false
+not-free-not-relative v place token s d e = by-raw (eqb place raw) refl
+  where
+    by-raw : (b : Bool) → eqb place raw ≡ b → pick b false (eqb (bit 13 token) 1) ≡ false
+    by-raw true h = refl
+    by-raw false h =
+        let n = typed-not-relative v place s d in
+        laid-not-relative v place token n (isDestination place) (told-laid _ _ (rw (not-raw v place token h) at e))

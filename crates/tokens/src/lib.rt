@@ -1,10 +1,14 @@
 // Versions and operand tokens: document 01, "What the build does" and "Operand tokens".
 ghost use mathlib.Core.Path.{_≡_};
-ghost use Prim.Native.Nat.{_<_};
-ghost use Rattle.paper.specs.Notation.{holds};
+ghost use mathlib.Core.Bool.{true, false, not, _||_};
+ghost use Prim.Native.Nat.{ℕ, _<_};
+ghost use lib.Dec.{eqb};
+ghost use Rattle.paper.specs.Notation.{bits, holds};
 ghost use Rattle.paper.specs.Versions.{named, isPixel, isThird};
-ghost use Rattle.paper.specs.OperandTokens.{typeOf, relativeSources, relativeDestinations, mayBeRelative, destinationLaid, modifierLaid, sourceLaid, laid, freeDestinationTypes, freeSourceTypes, conditionTypes, relativeTypes, typesAt, layoutThenType, tokenAt, bringsRelative};
-ghost use Rattle.tokens.specs.Plain.{plainSource, plainTemporary};
+ghost use Rattle.paper.specs.OperandTokens.{typeOf, modifierOf, bothLaid, relativeSources, relativeDestinations, mayBeRelative, destinationLaid, modifierLaid, sourceLaid, laid, freeDestinationTypes, freeSourceTypes, conditionTypes, relativeTypes, typesAt, layoutThenType, tokenAt, bringsRelative};
+ghost use Rattle.paper.specs.Numbers.{toldToken};
+ghost use Rattle.paper.specs.declared.Version.{Version as AnyVersion};
+ghost use Rattle.tokens.specs.Plain.{plainSource, plainDestination};
 use paper::Named;
 use paper::Reason;
 use paper::Token;
@@ -38,15 +42,21 @@ const VERTEX_SOURCES: u32 = 0b11_1000_0000_0111;
 
 const KILLED_TYPES: u32 = 0b1001;
 
-const BOOLEAN_OR_PREDICATE: u32 = 0x8_4000;
+const PREDICATE_TYPES: u32 = 0x8_0000;
 
-const BOOLEAN: u32 = 0x4000;
+// Register types.
+const ADDRESS: u32 = 3;
 
-const ADDRESS_OR_COUNTER: u32 = 0x8008;
+const BOOLEAN: u32 = 14;
 
-const COUNTER: u32 = 0x8000;
+const COUNTER: u32 = 15;
 
-const PREDICATE_TYPE: u32 = 0x8_0000;
+const PREDICATE_REGISTER: u32 = 19;
+
+// What is told of a token that is not good: the number of its fault.
+const OPERAND: u64 = 7;
+
+const REGISTER: u64 = 8;
 
 pub fn version_of(token: u32) -> Named
     ensures { λ r. ⌜ r ≡ named token ⌝ }
@@ -159,31 +169,99 @@ fn modifier_laid(place: u64, modifier: u32, kind: u32) -> bool
         return false;
     }
     if place == PREDICATE {
-        return (modifier == 13) & (kind == 19);
+        return (modifier == 13) & (kind == PREDICATE_REGISTER);
     }
     if (PLAIN_MODIFIERS >> modifier) % 2 == 1 {
         return true;
     }
-    (modifier == 13) & (kind == 19)
+    (modifier == 13) & (kind == PREDICATE_REGISTER)
 }
 
-fn source_laid(version: Version, place: u64, token: u32) -> bool
-    ensures { λ r. ⌜ r ≡ sourceLaid version place token ⌝ }
+// What sources and destinations have in common.
+fn both_laid(token: u32) -> bool
+    ensures { λ r. ⌜ r ≡ bothLaid token ⌝ }
 {
-    let kind = type_of(token);
-    let modifier = modifier_laid(place, token / 0x100_0000 % 16, kind);
-    let relative = may_be_relative(version, place);
-    ((token / 0x4000 % 4 == 0) & (token / 0x8000_0000 % 2 == 1))
-        & (modifier & ((token / 0x2000 % 2 == 0) | relative))
+    (token / 0x4000 % 4 == 0) & (token / 0x8000_0000 % 2 == 1)
 }
 
-fn is_laid(version: Version, place: u64, token: u32) -> bool
+// Bits 21 and 22: "pixel only".
+fn result_laid(version: Version, token: u32) -> bool
+    ensures { λ r. ⌜ r ≡ (eqb (bits 22 21 token) 0 || isPixel version) ⌝ }
+{
+    if token / 0x20_0000 % 4 == 0 {
+        return true;
+    }
+    is_pixel(version)
+}
+
+fn free_modifier(token: u32) -> bool
+    ensures { λ r. ⌜ r ≡ modifierLaid 95 (modifierOf token) (typeOf token) ⌝ }
+{
+    let modifier = token / 0x100_0000 % 16;
+    if (PLAIN_MODIFIERS >> modifier) % 2 == 1 {
+        return true;
+    }
+    (modifier == 13) & (type_of(token) == PREDICATE_REGISTER)
+}
+
+fn free_source_laid(version: Version, token: u32) -> bool
+    ensures { λ r. ⌜ r ≡ sourceLaid version 95 token ⌝ }
+{
+    if both_laid(token) {
+        if free_modifier(token) {
+            if token / 0x2000 % 2 == 0 {
+                return true;
+            }
+            return relative_sources(version);
+        }
+    }
+    false
+}
+
+fn free_destination_laid(version: Version, token: u32) -> bool
+    ensures { λ r. ⌜ r ≡ destinationLaid version 63 token ⌝ }
+{
+    if both_laid(token) & ((token / 0x80_0000 % 2 == 0) & (token / 0x100_0000 % 16 == 0)) {
+        if result_laid(version, token) {
+            if token / 0x2000 % 2 == 0 {
+                return true;
+            }
+            return relative_destinations(version);
+        }
+    }
+    false
+}
+
+// At a place that is not free bit 13 is zero.
+fn typed_destination_laid(version: Version, token: u32) -> bool
+    ensures { λ r. ⌜ ((place : ℕ) → mayBeRelative version place ≡ false → r ≡ destinationLaid version place token) ⌝ }
+{
+    if both_laid(token)
+        & ((token / 0x80_0000 % 2 == 0)
+            & ((token / 0x100_0000 % 16 == 0) & (token / 0x2000 % 2 == 0)))
+    {
+        return result_laid(version, token);
+    }
+    false
+}
+
+fn typed_source_laid(place: u64, token: u32) -> bool
+    ensures { λ r. ⌜ ((v : AnyVersion) → mayBeRelative v place ≡ false → r ≡ sourceLaid v place token) ⌝ }
+{
+    if both_laid(token) & (token / 0x2000 % 2 == 0) {
+        return modifier_laid(place, token / 0x100_0000 % 16, type_of(token));
+    }
+    false
+}
+
+fn typed_laid(version: Version, place: u64, token: u32) -> bool
+    requires { ⌜ mayBeRelative version place ≡ false ⌝ }
     ensures { λ r. ⌜ r ≡ laid version place token ⌝ }
 {
     if place / 32 == 1 {
-        return destination_laid(version, place, token);
+        return typed_destination_laid(version, token);
     }
-    source_laid(version, place, token)
+    typed_source_laid(place, token)
 }
 
 fn free_destination_types(version: Version) -> u32
@@ -206,49 +284,63 @@ fn free_source_types(version: Version) -> u32
     }
 }
 
-fn condition_types(version: Version) -> u32
-    ensures { λ r. ⌜ r ≡ conditionTypes version ⌝ }
+fn condition_typed(version: Version, token: u32) -> bool
+    ensures { λ r. ⌜ r ≡ holds (conditionTypes version) (typeOf token) ⌝ }
 {
-    if is_third(version) {
-        BOOLEAN_OR_PREDICATE
-    } else {
-        BOOLEAN
+    let kind = type_of(token);
+    if kind == BOOLEAN {
+        return true;
     }
+    if kind == PREDICATE_REGISTER {
+        return is_third(version);
+    }
+    false
 }
 
-fn relative_types(version: Version) -> u32
-    ensures { λ r. ⌜ r ≡ relativeTypes version ⌝ }
+// "P3: 15 only"
+fn counter_only(version: Version) -> bool
+    ensures { λ r. ⌜ not r ≡ holds (relativeTypes version) 3 ⌝ }
 {
     match version {
-        Version::V2 => ADDRESS_OR_COUNTER,
-        Version::V3 => ADDRESS_OR_COUNTER,
-        Version::P2 => ADDRESS_OR_COUNTER,
-        Version::P3 => COUNTER,
+        Version::V2 => false,
+        Version::V3 => false,
+        Version::P2 => false,
+        Version::P3 => true,
     }
 }
 
-fn types_at(version: Version, place: u64) -> u32
-    ensures { λ r. ⌜ r ≡ typesAt version place ⌝ }
+fn relative_typed(version: Version, token: u32) -> bool
+    ensures { λ r. ⌜ r ≡ holds (relativeTypes version) (typeOf token) ⌝ }
 {
-    if place == FREE_DESTINATION {
-        return free_destination_types(version);
+    let kind = type_of(token);
+    if kind == COUNTER {
+        return true;
     }
-    if place == FREE_SOURCE {
-        return free_source_types(version);
+    if kind == ADDRESS {
+        return !counter_only(version);
     }
+    false
+}
+
+// The type at a place that is not free.
+fn typed_at(version: Version, place: u64, token: u32) -> bool
+    requires not_destination { ⌜ eqb place 63 ≡ false ⌝ }
+    requires not_source { ⌜ eqb place 95 ≡ false ⌝ }
+    ensures { λ r. ⌜ r ≡ holds (typesAt version place) (typeOf token) ⌝ }
+{
     if place == KILLED {
-        return KILLED_TYPES;
+        return type_in(KILLED_TYPES, token);
     }
     if place == CONDITION {
-        return condition_types(version);
-    }
-    if place == RELATIVE {
-        return relative_types(version);
+        return condition_typed(version, token);
     }
     if place == PREDICATE {
-        return PREDICATE_TYPE;
+        return type_in(PREDICATE_TYPES, token);
     }
-    1 << (place % 32)
+    if place == RELATIVE {
+        return relative_typed(version, token);
+    }
+    type_in(1 << (place % 32), token)
 }
 
 pub fn layout_then_type(laid: bool, typed: bool) -> Token
@@ -265,77 +357,96 @@ pub fn layout_then_type(laid: bool, typed: bool) -> Token
     }
 }
 
-// The commonest places come first, with what is known of them: a free source, a free destination, a raw token.
-fn free_source(version: Version, token: u32) -> Token
-    ensures { λ r. ⌜ r ≡ tokenAt version 95 token ⌝ }
+// What is told of a token whose layout is right.
+fn told_typed(typed: bool) -> u64
+    ensures { λ r. ⌜ r ≡ toldToken (layoutThenType true typed) ⌝ }
 {
-    let laid = source_laid(version, FREE_SOURCE, token);
-    let types = free_source_types(version);
-    let typed = type_in(types, token);
-    layout_then_type(laid, typed)
+    if typed {
+        return 0;
+    }
+    REGISTER
 }
 
-fn free_destination(version: Version, token: u32) -> Token
-    ensures { λ r. ⌜ r ≡ tokenAt version 63 token ⌝ }
+fn told_by_type(set: u32, token: u32) -> u64
+    ensures { λ r. ⌜ r ≡ toldToken (layoutThenType true (holds set (typeOf token))) ⌝ }
 {
-    let laid = destination_laid(version, FREE_DESTINATION, token);
-    let types = free_destination_types(version);
-    let typed = type_in(types, token);
-    layout_then_type(laid, typed)
+    if type_in(set, token) {
+        return 0;
+    }
+    REGISTER
 }
 
-fn other_place(version: Version, place: u64, token: u32) -> Token
-    ensures { λ r. ⌜ r ≡ layoutThenType (laid version place token) (holds (typesAt version place) (typeOf token)) ⌝ }
-{
-    let laid = is_laid(version, place, token);
-    let types = types_at(version, place);
-    let typed = type_in(types, token);
-    layout_then_type(laid, typed)
-}
-
-// The commonest source: no modifier or negation, not relative, of a type that every version allows.
+// Most sources: no modifier or negation, not relative.
 fn plain_source(token: u32) -> bool
     ensures { λ r. ⌜ r ≡ plainSource token ⌝ }
 {
-    let typed = type_in(VERTEX_SOURCES, token);
     (token / 0x4000 % 4 == 0)
-        & ((token / 0x8000_0000 % 2 == 1)
-            & ((token / 0x2000 % 2 == 0) & ((token / 0x100_0000 % 16 <= 1) & typed)))
+        & ((token / 0x2000 % 2 == 0)
+            & ((token / 0x100_0000 % 16 <= 1) & (token / 0x8000_0000 % 2 == 1)))
 }
 
-// The commonest destination: a temporary register with a mask, saturated or not.
-fn plain_temporary(token: u32) -> bool
-    ensures { λ r. ⌜ r ≡ plainTemporary token ⌝ }
+// Most destinations: a mask, saturated or not.
+fn plain_destination(token: u32) -> bool
+    ensures { λ r. ⌜ r ≡ plainDestination token ⌝ }
 {
     (token / 0x4000 % 4 == 0)
-        & ((token / 0x8000_0000 % 2 == 1)
-            & ((token / 0x2000 % 2 == 0)
-                & ((token / 0x20_0000 % 4 == 0)
-                    & ((token / 0x80_0000 % 2 == 0)
-                        & ((token / 0x100_0000 % 16 == 0)
-                            & ((token / 0x1000_0000 % 8 == 0) & (token / 0x800 % 4 == 0)))))))
+        & ((token / 0x2000 % 2 == 0)
+            & ((token / 0x20_0000 % 4 == 0)
+                & ((token / 0x80_0000 % 2 == 0)
+                    & ((token / 0x100_0000 % 16 == 0) & (token / 0x8000_0000 % 2 == 1)))))
 }
 
-// One token, judged at its place.
-pub fn judge_token(version: Version, place: u64, token: u32) -> Token
-    ensures { λ r. ⌜ r ≡ tokenAt version place token ⌝ }
+// What is told of a token at a free source: 0 if it is good.
+pub fn judge_source(version: Version, token: u32) -> u64
+    ensures { λ r. ⌜ r ≡ toldToken (tokenAt version 95 token) ⌝ }
+{
+    if plain_source(token) {
+        return told_by_type(free_source_types(version), token);
+    }
+    if free_source_laid(version, token) {
+        return told_by_type(free_source_types(version), token);
+    }
+    OPERAND
+}
+
+pub fn judge_destination(version: Version, token: u32) -> u64
+    ensures { λ r. ⌜ r ≡ toldToken (tokenAt version 63 token) ⌝ }
+{
+    if plain_destination(token) {
+        return told_by_type(free_destination_types(version), token);
+    }
+    if free_destination_laid(version, token) {
+        return told_by_type(free_destination_types(version), token);
+    }
+    OPERAND
+}
+
+pub fn judge_relative(version: Version, token: u32) -> u64
+    ensures { λ r. ⌜ r ≡ toldToken (tokenAt version 94 token) ⌝ }
+{
+    if typed_source_laid(RELATIVE, token) {
+        return told_typed(relative_typed(version, token));
+    }
+    OPERAND
+}
+
+// What is told of a token at any place.
+pub fn judge_token(version: Version, place: u64, token: u32) -> u64
+    ensures { λ r. ⌜ r ≡ toldToken (tokenAt version place token) ⌝ }
 {
     if place == FREE_SOURCE {
-        if plain_source(token) {
-            return Token::Good;
-        }
-        return free_source(version, token);
+        return judge_source(version, token);
     }
     if place == FREE_DESTINATION {
-        if plain_temporary(token) {
-            return Token::Good;
-        }
-        return free_destination(version, token);
+        return judge_destination(version, token);
     }
     if place == RAW {
-        return Token::Good;
+        return 0;
     }
-    other_place(version, place, token)
+    if typed_laid(version, place, token) {
+        return told_typed(typed_at(version, place, token));
+    }
+    OPERAND
 }
 
 // Whether a relative token follows a token that is good at its place.

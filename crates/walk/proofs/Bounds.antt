@@ -30,10 +30,6 @@ use Rattle.paper.specs.declared.Single.the-variants.{Comment}
 use Rattle.paper.specs.declared.Judged.{Judged}
 use Rattle.paper.specs.declared.Judged.the-variants.{Good, Refused}
 use Rattle.instruction.proofs.Laws.{operand-within}
-use Rattle.instruction.specs.declared.Head.{Head as Coded}
-use Rattle.instruction.specs.declared.Head.the-variants.{Refused as Broken, End, Comment as Comments, Declaration as Declares, Operation as Operates}
-use Rattle.instruction.specs.Encoded.{encoded}
-use Rattle.walk.specs.Steps.{looksAt}
 
 -- how far a refusal lies from the instruction's first token
 
@@ -150,47 +146,3 @@ pub judged-in : (v : Version) (tokens : List ℕ) → 0 < length tokens → take
 unfolding judged
 judged-in v [] h = absurd (omega arith)
 judged-in v (token ∷ rest) h = omega (arith, head-in v (head v token) (classOf (opcodeOf token)) rest)
-
-size-within : (size left : ℕ) (fits : Bool) → leb size left ≡ fits → pick fits size 0 ≤ left
-size-within size left true e = leb-true size left e
-size-within size left false e = omega arith
-
--- an instruction is judged by tokens that are there
-pub looks-within : (h : Coded) (left : ℕ) → looksAt h left ≤ left
-looks-within (Broken reason) left = omega arith
-looks-within End left = omega arith
-looks-within (Comments n) left = omega arith
-looks-within (Declares size) left = size-within size left (leb size left) refl
-looks-within (Operates ps size) left = size-within size left (leb size left) refl
-
--- "Bits 27:24 are the size": an instruction is judged by at most fifteen tokens
-module _ (left : ℕ) where
-  size-few : (size : ℕ) → size < 16 → pick (leb size left) size 0 < 16
-  size-few size h = by-size (leb size left)
-    where
-      by-size : (fits : Bool) → pick fits size 0 < 16
-      by-size true = h
-      by-size false = omega arith
-
-  pick-few : (b : Bool) (x y : Head) → looksAt (encoded x) left < 16 → looksAt (encoded y) left < 16 → looksAt (encoded (pick b x y)) left < 16
-  pick-few true x y f g = f
-  pick-few false x y f g = g
-
-  entry-few : (v : Version) (token : ℕ) (entry : Entry) → looksAt (encoded (headOf v token entry)) left < 16
-  entry-few v token absent = omega arith
-  entry-few v token (listed letters) =
-      pick-few (bitsLaid v token letters) (pick (eqb (opcodeOf token) DCL) (dcl (statedSize token)) (operation (places token letters) (statedSize token)))
-      (broken BITS)
-      (pick-few (eqb (opcodeOf token) DCL) (dcl (statedSize token)) (operation (places token letters) (statedSize token))
-      (size-few (statedSize token) (omega arith)) (size-few (statedSize token) (omega arith)))
-      (omega arith)
-
-  pub looks-few : (v : Version) (token : ℕ) → looksAt (encoded (head v token)) left < 16
-  unfolding head
-  looks-few v token =
-      pick-few (eqb (opcodeOf token) commentOpcode) (pick (commentLaid token) (comment (commentLength token)) (broken BITS))
-      (pick (eqb (opcodeOf token) endOpcode) (pick (eqb token endToken) end (broken BITS)) (headOf v token (entryOf v (opcodeOf token))))
-      (pick-few (commentLaid token) (comment (commentLength token)) (broken BITS) (omega arith) (omega arith))
-      (pick-few (eqb (opcodeOf token) endOpcode) (pick (eqb token endToken) end (broken BITS)) (headOf v token (entryOf v (opcodeOf token)))
-      (pick-few (eqb token endToken) end (broken BITS) (omega arith) (omega arith))
-      (entry-few v token (entryOf v (opcodeOf token))))

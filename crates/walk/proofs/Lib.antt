@@ -1,3 +1,4 @@
 pub mod OpenBlocks
 pub mod Bounds
 pub mod OnStream
+pub mod Telling

@@ -5,10 +5,7 @@ use mathlib.Core.Bool.{Bool, true, false}
 use mathlib.Core.List.{List, []}
 use native.Mathlib.Nat.{mod-eq-of-lt, add-zero}
 use native.Mathlib.Omega.{arith}
-use lib.Dec.{leb, leb·zero}
-use lib.ListN.{length, take, drop, getD, length-drop}
-use lib.Seq.{drop-drop, getD-drop}
-use Rattle.paper.specs.Notation.{pick}
+use lib.ListN.{length, drop, length-drop}
 use Rattle.paper.specs.Numbers.{refusal}
 use Rattle.paper.specs.Instruction.{judged}
 use Rattle.paper.specs.Blocks.{Cut, wrong, then, stands}
@@ -29,15 +26,11 @@ use Rattle.paper.specs.declared.Verdict.the-variants.{Accepted, Refused as no-v
 use Rattle.blocks.specs.Reach.{here, past}
 use Rattle.blocks.proofs.Cutting.{cut-none, cut-at}
 use Rattle.blocks.proofs.Reach.{reached, reaches-on}
-use Rattle.instruction.specs.declared.Head.{Head}
-use Rattle.instruction.specs.declared.Head.the-variants.{Refused as broken, End as end, Comment as comment, Declaration as declared, Operation as operation}
-use Rattle.instruction.specs.Encoded.{judgedBy}
-use Rattle.instruction.proofs.Heads.{claimed, judged-some}
 use Rattle.walk.specs.declared.State.{State}
 use Rattle.walk.specs.declared.Stepped.the-variants.{On, Done, Refused}
 use Rattle.walk.specs.Kinds.{numberOf, numbered, nextBy}
-use Rattle.walk.specs.Steps.{wrapped, behindOf, onNextBy, onJudged, looksAt, stepBy}
-use Rattle.walk.specs.Stands.{Stands, Ends, headAt, stepAt}
+use Rattle.walk.specs.Steps.{wrapped, behindOf, onNextBy, onJudged}
+use Rattle.walk.specs.Stands.{Stands, Ends, stepAt}
 use Rattle.walk.proofs.OpenBlocks.{next-is, step-few}
 use Rattle.walk.proofs.Bounds.{judged-near, judged-in}
 
@@ -70,42 +63,9 @@ counts-most (Closes EndRep) n = omega arith
 counts-most (Closes End) n = omega arith
 
 -- the step judges the instruction at its position
-
-module _ (v : Version) (state : State) (first : ℕ) (fits : state .at < 2 ^ 64) where
-  here-same : wrapped (state .at + 0) ≡ state .at
-  here-same = rw (add-zero (state .at)) (mod-eq-of-lt fits)
-
-  run-out : (b : Bool) (x : Judged) →
-      pick b (onJudged x state) (Refused (refusal RUN-OUT (state .at))) ≡ onJudged (pick b x (unfit (refusal RUN-OUT 0))) state
-  run-out true x = refl
-  run-out false x = ap (λ (p : ℕ). Refused (refusal RUN-OUT p)) (sym here-same)
-
-  looked : (b : Bool) (h : Head) (size : ℕ) (rest : List ℕ) →
-      pick b (onJudged (judgedBy v h first (take (pick b size 0) rest)) state) (Refused (refusal RUN-OUT (state .at))) ≡
-      onJudged (pick b (judgedBy v h first (take size rest)) (unfit (refusal RUN-OUT 0))) state
-  looked true h size rest = refl
-  looked false h size rest = run-out false (judgedBy v h first (take size rest))
-
-  step-claimed : (h : Head) (rest : List ℕ) →
-      stepBy v state h first (take (looksAt h (length rest)) rest) (length rest) ≡ onJudged (claimed v h first rest) state
-  unfolding stepBy
-  step-claimed (broken reason) rest = rw (leb·zero (length rest))
-  step-claimed end rest = rw (leb·zero (length rest))
-  step-claimed (comment n) rest = run-out (leb n (length rest)) (judgedBy v (comment n) first [])
-  step-claimed (declared size) rest = looked (leb size (length rest)) (declared size) size rest
-  step-claimed (operation ps size) rest = looked (leb size (length rest)) (operation ps size) size rest
-
-pub step-judged : (v : Version) (s : List ℕ) (state : State) → state .at < length s → length s < 2 ^ 64 →
-    stepAt v s state ≡ onJudged (judged v (drop (state .at) s)) state
+pub step-judged : (v : Version) (s : List ℕ) (state : State) → stepAt v s state ≡ onJudged (judged v (drop (state .at) s)) state
 unfolding stepAt
-step-judged v s state h fits =
-    let p = state .at in
-    let some : (length (drop p s) ≡ 0 → ⊥) = λ e. omega (arith, length-drop p s) in
-    let token : getD (drop p s) 0 0 ≡ getD s p 0 = getD-drop p s 0 0 ∙ ap (λ (n : ℕ). getD s n 0) (add-zero p) in
-    let rest : drop 1 (drop p s) ≡ drop (p + 1) s = drop-drop 1 p s in
-    let whole : judged v (drop p s) ≡ claimed v (headAt v s p) (getD s p 0) (drop (p + 1) s) =
-    rw (token, rest) at (judged-some v (drop p s) some) in
-    rw (whole, ← (length-drop (p + 1) s)) (step-claimed v state (getD s p 0) (omega arith) (headAt v s p) (drop (p + 1) s))
+step-judged v s state = refl
 
 -- the walk stands behind the version at first
 
@@ -237,20 +197,17 @@ module _ (v : Version) (s : List ℕ) (state : State) (h : Stands v s state) (lt
       refused-next size class e (step (h .opened) class) refl r (rw (next-said size class e) at g)
   refused-judged (unfit q) e r g = refused-unfit q e r g
 
-  judgement : stepAt v s state ≡ onJudged (judged v (drop (state .at) s)) state
-  judgement = step-judged v s state lt fits
-
   -- it goes on: the walk stands further on
   pub step-on : (next : State) → stepAt v s state ≡ On next → Stands v s next × (state .at < next .at)
-  step-on next e = on-judged (judged v (drop (state .at) s)) refl next (sym judgement ∙ e)
+  step-on next e = on-judged (judged v (drop (state .at) s)) refl next (sym (step-judged v s state) ∙ e)
 
   -- it is at its end
   pub step-done : (next : State) → stepAt v s state ≡ Done next → Ends v s next
-  step-done next e = done-judged (judged v (drop (state .at) s)) refl next (sym judgement ∙ e)
+  step-done next e = done-judged (judged v (drop (state .at) s)) refl next (sym (step-judged v s state) ∙ e)
 
   -- it is refused, and so is the stream
   pub step-refused : (r : Refusal) → stepAt v s state ≡ Refused r → walked v s ≡ no-verdict r
-  step-refused r e = refused-judged (judged v (drop (state .at) s)) refl r (sym judgement ∙ e)
+  step-refused r e = refused-judged (judged v (drop (state .at) s)) refl r (sym (step-judged v s state) ∙ e)
 
 -- behind the END that finishes the stream: nothing follows, or TAIL
 

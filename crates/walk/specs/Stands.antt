@@ -1,19 +1,17 @@
 -- Where a walk stands in a stream, and where it ends.
-use Prim.Native.Nat.{ℕ, _+_, _-_, _≤_}
+use Prim.Native.Nat.{ℕ, _+_, _≤_}
 use mathlib.Core.Path.{_≡_}
 use mathlib.Core.List.{List, []}
-use lib.ListN.{length, take, drop, getD}
-use Rattle.paper.specs.Instruction.{head}
+use lib.ListN.{length, drop}
+use Rattle.paper.specs.Instruction.{judged}
 use Rattle.paper.specs.Walk.{Kind, atEnd}
 use Rattle.paper.specs.Stream.{cutFrom, count, walked}
 use Rattle.paper.specs.declared.Version.{Version}
 use Rattle.blocks.specs.Reach.{Reaches}
-use Rattle.instruction.specs.declared.Head.{Head}
-use Rattle.instruction.specs.Encoded.{encoded}
 use Rattle.walk.specs.declared.State.{State}
 use Rattle.walk.specs.declared.Stepped.{Stepped}
 use Rattle.walk.specs.Kinds.{numberOf}
-use Rattle.walk.specs.Steps.{looksAt, stepBy}
+use Rattle.walk.specs.Steps.{onJudged}
 
 -- The walk of the stream comes to this position with these blocks open, past so many instructions.
 pub record Stands (v : Version) (s : List ℕ) (state : State) : Type 0 where
@@ -31,18 +29,6 @@ pub record Ends (v : Version) (s : List ℕ) (state : State) : Type 0 where
   pub verdict : walked v s ≡ atEnd (count (cutFrom v s 1)) (cutFrom v s (state .at))
   pub counts : count (cutFrom v s 1) ≡ state .count + count (cutFrom v s (state .at))
 
--- the first token of the instruction at a position, its head, and the tokens that are left behind the first
-abbrev pub headAt : Version → List ℕ → ℕ → Head
-headAt v s at = encoded (head v (getD s at 0))
-
-abbrev pub leftAt : List ℕ → ℕ → ℕ
-leftAt s at = length s - (at + 1)
-
--- the tokens that the instruction at a position is judged by
-abbrev pub behindAt : Version → List ℕ → ℕ → List ℕ
-behindAt v s at = take (looksAt (headAt v s at) (leftAt s at)) (drop (at + 1) s)
-
 -- the step at a position of a stream
 unfoldable pub stepAt : Version → List ℕ → State → Stepped
-stepAt v s state =
-    stepBy v state (headAt v s (state .at)) (getD s (state .at) 0) (behindAt v s (state .at)) (leftAt s (state .at))
+stepAt v s state = onJudged (judged v (drop (state .at) s)) state

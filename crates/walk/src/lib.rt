@@ -1,10 +1,17 @@
 // The walk of a stream, one instruction a step: document 01, "The numbers given back" and "Blocks".
 ghost use mathlib.Core.Path.{_≡_};
+ghost use Prim.Native.Nat.{_/_, _%_};
+ghost use lib.Dec.{eqb};
+ghost use lib.ListN.{drop};
 ghost use Rattle.paper.specs.Numbers.{refusal};
+ghost use Rattle.paper.specs.Instruction.{judged};
 ghost use Rattle.paper.specs.Stream.{counts};
+ghost use Rattle.paper.specs.declared.Class.the-variants.{One};
+ghost use Rattle.paper.specs.declared.Single.the-variants.{Plain};
+ghost use Rattle.instruction.specs.Numbered.{judgedFrom, judgedIn};
 ghost use Rattle.walk.specs.Kinds.{inLoopBy, allowedBy, standsBy, opensBy, closesBy, nextBy};
-ghost use Rattle.walk.specs.Steps.{wrapped, behindOf, onNextBy, looksAt, stepBy};
-use instruction::Head;
+ghost use Rattle.walk.specs.Steps.{wrapped, behindOf, onNextBy, onJudged, shownOf};
+ghost use Rattle.walk.specs.declared.Stepped.the-variants.{On};
 use paper::Class;
 use paper::Closer;
 use paper::Judged;
@@ -16,6 +23,9 @@ use paper::Version;
 
 // 5^23: with 24 blocks open their number is at least this.
 const DEEPEST: u64 = 11_920_928_955_078_125;
+
+// "Bits 27:24 are the size": nothing but a comment claims more tokens behind its first one.
+const MOST_CLAIMED: usize = 15;
 
 // What an instruction does to the open blocks: the walk goes on with these, is refused, or is at its end.
 pub enum Next {
@@ -172,35 +182,30 @@ fn nested(state: State, size: usize, class: Class) -> Stepped
     }
 }
 
-// How many tokens behind its first one an instruction is judged by, where `left` are left.
-pub fn looks_at(head: Head, left: usize) -> usize
-    ensures { λ r. ⌜ r ≡ looksAt head left ⌝ }
+// Whether what is told is a yes for an instruction that neither opens nor closes a block and may stand anywhere.
+fn is_plain(told: u64) -> bool
+    ensures { λ r. ⌜ r ≡ eqb (told % 32) 2 ⌝ }
 {
-    match head {
-        Head::Refused(_) => 0,
-        Head::End => 0,
-        Head::Comment(_) => 0,
-        Head::Declaration(size) => if size <= left { size } else { 0 },
-        Head::Operation(_, size) => if size <= left { size } else { 0 },
-    }
+    told % 32 == 2
 }
 
-// The instruction at `state`, whose first token is `first` with the head `head`: it is judged by `behind`, the tokens that
-// `looks_at` asks for, where `left` tokens are left behind the first.
-pub fn step(
-    version: Version,
-    state: State,
-    head: Head,
-    first: u32,
-    behind: &[u32],
-    left: usize,
-) -> Stepped
-    ensures { λ r. ⌜ r ≡ stepBy version state head first (now (behind .entry)) left ⌝ }
+// The state behind such an instruction.
+fn passed(state: State, told: u64) -> Stepped
+    ensures { λ r. ⌜ r ≡ On (behindOf state (told / 32) (One Plain) (state .kinds)) ⌝ }
 {
-    if left < instruction::claim_of(head) {
-        return refused(Reason::RunOut, state.at);
-    }
-    let judged = instruction::judge_claimed(version, head, first, behind);
+    Stepped::On(behind_of(
+        state,
+        (told / 32) as usize,
+        Class::One(Single::Plain),
+        state.kinds,
+    ))
+}
+
+// The state behind an instruction of which this is told.
+fn moved(state: State, told: u64) -> Stepped
+    ensures { λ r. ⌜ r ≡ onJudged (judgedFrom told) state ⌝ }
+{
+    let judged = instruction::judged_of(told);
     match judged {
         Judged::Good(size, class) => nested(state, size, class),
         Judged::Refused(refusal) => {
@@ -211,4 +216,41 @@ pub fn step(
             )
         }
     }
+}
+
+// How many of the tokens behind an instruction's first one are shown, where so many are left.
+pub fn shown_of(left: usize) -> usize
+    ensures { λ r. ⌜ r ≡ shownOf left ⌝ }
+{
+    if left < MOST_CLAIMED {
+        return left;
+    }
+    MOST_CLAIMED
+}
+
+// The instruction at `state`, whose first token is `first`: of the `left` tokens behind it the first fifteen are shown, or all.
+pub fn step(version: Version, state: State, first: u32, behind: &[u32], left: usize) -> Stepped
+    ensures { λ r. ⌜ r ≡ onJudged (judgedIn version first (now (behind .entry)) left) state ⌝ }
+{
+    let told = instruction::judge_first(version, first, behind, left);
+    if is_plain(told) {
+        return passed(state, told);
+    }
+    moved(state, told)
+}
+
+// The instruction at a place of these tokens, which is at `state` of the walk.
+pub fn step_in(version: Version, state: State, tokens: &[u32], at: usize) -> Stepped
+    ensures { λ r. ⌜ r ≡ onJudged (judged version (drop at (now (tokens .entry)))) state ⌝ }
+{
+    if tokens.len() <= at {
+        return refused(Reason::RunOut, state.at);
+    }
+    let from = at + 1;
+    let left = tokens.len() - from;
+    let told = instruction::judge_first(version, tokens[at], &tokens[from..], left);
+    if is_plain(told) {
+        return passed(state, told);
+    }
+    moved(state, told)
 }

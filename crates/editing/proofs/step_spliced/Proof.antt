@@ -1,8 +1,9 @@
 use Prim.Native.Nat.{_+_, _-_}
 use mathlib.Core.Path.{refl, sym, _∙_}
 use native.Mathlib.Omega.{arith}
-use lib.ListN.{drop, length-take}
-use Rattle.editing.proofs.Tokens.{looked-few, part-size, part-of-run, step-in-old, step-in-run}
+use lib.ListN.{length, drop, length-take}
+use Rattle.walk.proofs.Telling.{shown-few}
+use Rattle.editing.proofs.Tokens.{part-size, part-of-run, step-in-old, step-in-run}
 use borrow.Author.Needs.{needs}
 use Rattle.editing.proofs.step_spliced.Statement.{statement}
 use Rattle.editing.proofs.step_spliced.Tie as tie
@@ -43,11 +44,8 @@ mul-first c = search needs
 shared-slice-read-first : tie.Need-shared-slice-read-first
 shared-slice-read-first c = search needs
 
-read-head-requires : tie.Need-read-head-requires
-read-head-requires c κs = search needs
-
-looks-at-requires : tie.Need-looks-at-requires
-looks-at-requires c κs = search needs
+shown-of-requires : tie.Need-shown-of-requires
+shown-of-requires c κs = search needs
 
 add-end : tie.Need-add-end
 add-end c = search needs
@@ -70,34 +68,33 @@ step-requires c κs = search needs
 returns-2 : tie.Need-returns-2
 returns-2 c =
     let k = c .before .before .before in
-    let g = k .before .before .before .before .before .before .before .before .args in
-    let few = looked-few (g .version) _ _ (k .looks-at .result) (k .before .read-head .result) (k .before .read-head .ensures) (k .looks-at .ensures) in
+    let g = k .before .before .before .before .before .before .before .args in
+    let few = shown-few (length (g .run .now) - (g .state .at - g .i + 1) + (length (g .old .now) - g .j)) (k .shown-of .result) (k .shown-of .ensures) in
     c .step .ensures
-    ∙ step-in-run (g .run .now) (g .old .now) (g .j) (g .i) (omega arith) (g .version) (g .state) (omega arith) _ _ (k .looks-at .result) (k .before .read-head .result) _ (omega arith) refl refl
-    (k .before .read-head .ensures) (k .looks-at .ensures)
-    (part-size (g .state .at - g .i + 1) (k .looks-at .result) (drop (g .state .at - g .i + 1) (g .run .now)) ∙ sym (part-of-run (g .run .now) (g .old .now) (g .j) (g .state .at - g .i + 1) (k .looks-at .result) (omega arith)))
+    ∙ step-in-run (g .run .now) (g .old .now) (g .j) (g .i) (omega arith) (g .version) (g .state) (omega arith) _ _ (k .shown-of .result) _ (omega arith) refl refl (k .shown-of .ensures)
+    (part-size (g .state .at - g .i + 1) (k .shown-of .result) (drop (g .state .at - g .i + 1) (g .run .now)) ∙ sym (part-of-run (g .run .now) (g .old .now) (g .j) (g .state .at - g .i + 1) (k .shown-of .result) (omega arith)))
 
 gather-requires : tie.Need-gather-requires
 gather-requires c κs =
     let k = c .before .before in
-    let g = k .before .before .before .before .before .before .before .before .args in
-    let few = looked-few (g .version) _ _ (k .looks-at .result) (k .before .read-head .result) (k .before .read-head .ensures) (k .looks-at .ensures) in
+    let g = k .before .before .before .before .before .before .before .args in
+    let few = shown-few (length (g .run .now) - (g .state .at - g .i + 1) + (length (g .old .now) - g .j)) (k .shown-of .result) (k .shown-of .ensures) in
     (omega arith, omega arith, omega arith, omega arith)
 
 slice-reshare-prefix-step : tie.Need-slice-reshare-prefix-step
 slice-reshare-prefix-step c =
     let k = c .before .before .before .before .before in
-    let g = k .before .before .before .before .before .before .before .before .args in
-    let few = looked-few (g .version) _ _ (k .looks-at .result) (k .before .read-head .result) (k .before .read-head .ensures) (k .looks-at .ensures) in
+    let g = k .before .before .before .before .before .before .before .args in
+    let few = shown-few (length (g .run .now) - (g .state .at - g .i + 1) + (length (g .old .now) - g .j)) (k .shown-of .result) (k .shown-of .ensures) in
     omega (arith, c .before .before .gather .kept .0)
 
 slice-aggregate-step : tie.Need-slice-aggregate-step
 slice-aggregate-step c =
     let k = c .before .before .before .before .before .before in
-    let g = k .before .before .before .before .before .before .before .before .args in
-    let few = looked-few (g .version) _ _ (k .looks-at .result) (k .before .read-head .result) (k .before .read-head .ensures) (k .looks-at .ensures) in
+    let g = k .before .before .before .before .before .before .before .args in
+    let few = shown-few (length (g .run .now) - (g .state .at - g .i + 1) + (length (g .old .now) - g .j)) (k .shown-of .result) (k .shown-of .ensures) in
     let f = c .before .before .before .gather in
-    sym (length-take (k .looks-at .result) (f .last .0) ∙ omega (arith, f .kept .0))
+    sym (length-take (k .shown-of .result) (f .last .0) ∙ omega (arith, f .kept .0))
 
 step-requires-2 : tie.Need-step-requires-2
 step-requires-2 c κs = search needs
@@ -108,11 +105,10 @@ same-length c = search needs
 returns-3 : tie.Need-returns-3
 returns-3 c =
     let k = c .before .before .before .before .before .before .before in
-    let g = k .before .before .before .before .before .before .before .before .args in
-    let few = looked-few (g .version) _ _ (k .looks-at .result) (k .before .read-head .result) (k .before .read-head .ensures) (k .looks-at .ensures) in
+    let g = k .before .before .before .before .before .before .before .args in
+    let few = shown-few (length (g .run .now) - (g .state .at - g .i + 1) + (length (g .old .now) - g .j)) (k .shown-of .result) (k .shown-of .ensures) in
     c .step2 .ensures
-    ∙ step-in-run (g .run .now) (g .old .now) (g .j) (g .i) (omega arith) (g .version) (g .state) (omega arith) _ _ (k .looks-at .result) (k .before .read-head .result) _ (omega arith) refl refl
-    (k .before .read-head .ensures) (k .looks-at .ensures)
+    ∙ step-in-run (g .run .now) (g .old .now) (g .j) (g .i) (omega arith) (g .version) (g .state) (omega arith) _ _ (k .shown-of .result) _ (omega arith) refl refl (k .shown-of .ensures)
     (c .before .before .before .before .gather .ensures)
 
 pub step-spliced-spec : {M : Type 1} → statement M
@@ -130,8 +126,7 @@ step-spliced-spec =
     add-left
     mul-first
     shared-slice-read-first
-    read-head-requires
-    looks-at-requires
+    shown-of-requires
     add-end
     mul-step
     sub-step

@@ -4,7 +4,7 @@ use native.Mathlib.Omega.{arith}
 use Rattle.walk.specs.Stands.{Stands}
 use Rattle.walk.proofs.OnStream.{step-on}
 use Rattle.editing.proofs.Onward.{none-past, none-done, none-refused}
-use Rattle.editing.proofs.Tokens.{step-here}
+use Rattle.walk.proofs.OnStream.{step-judged}
 use borrow.Author.Needs.{needs}
 use Rattle.editing.proofs.walk_to.Statement.{statement}
 use Rattle.editing.proofs.walk_to.Tie as tie
@@ -30,7 +30,7 @@ returns c =
     let g = a .before .before .before .before .before .args in
     let l = a .before .before .before .loop in
     let s = l .state in
-    let here = sym (step-here (g .version) (g .tokens .now) s) ∙ sym (a .step-in .ensures) in
+    let here = step-judged (g .version) (g .tokens .now) s ∙ sym (a .step-in .ensures) in
     none-past (g .version) (g .tokens .now) s (l .inv .0) (omega arith) (omega arith) (g .target) (omega arith) (c .before .before .before .stepped .given .0 .0) (here ∙ c .before .before .before .stepped .given .1) (omega arith)
 
 loop-less : tie.Need-loop-less Inv-loop μ-loop
@@ -39,7 +39,7 @@ loop-less c =
     let g = a .before .before .before .before .before .args in
     let l = a .before .before .before .loop in
     let s = l .state in
-    let here = sym (step-here (g .version) (g .tokens .now) s) ∙ sym (a .step-in .ensures) in
+    let here = step-judged (g .version) (g .tokens .now) s ∙ sym (a .step-in .ensures) in
     let on = step-on (g .version) (g .tokens .now) s (l .inv .0) (omega arith) (omega arith) (c .before .before .before .stepped .given .0 .0) (here ∙ c .before .before .before .stepped .given .1) in
     omega arith
 
@@ -49,7 +49,7 @@ loop-again c =
     let g = a .before .before .before .before .before .args in
     let l = a .before .before .before .loop in
     let s = l .state in
-    let here = sym (step-here (g .version) (g .tokens .now) s) ∙ sym (a .step-in .ensures) in
+    let here = step-judged (g .version) (g .tokens .now) s ∙ sym (a .step-in .ensures) in
     let on = step-on (g .version) (g .tokens .now) s (l .inv .0) (omega arith) (omega arith) (c .before .before .before .stepped .given .0 .0) (here ∙ c .before .before .before .stepped .given .1) in
     (on .0, omega arith)
 
@@ -62,7 +62,7 @@ returns-2 c =
     let g = a .before .before .before .before .before .args in
     let l = a .before .before .before .loop in
     let s = l .state in
-    let here = sym (step-here (g .version) (g .tokens .now) s) ∙ sym (a .step-in .ensures) in
+    let here = step-judged (g .version) (g .tokens .now) s ∙ sym (a .step-in .ensures) in
     none-done (g .version) (g .tokens .now) s (l .inv .0) (omega arith) (omega arith) (g .target) (omega arith) (c .enum-told .given .0 .0) (here ∙ c .enum-told .given .1)
 
 enum-told-2 : tie.Need-enum-told-2 Inv-loop μ-loop
@@ -74,7 +74,7 @@ returns-3 c =
     let g = a .before .before .before .before .before .args in
     let l = a .before .before .before .loop in
     let s = l .state in
-    let here = sym (step-here (g .version) (g .tokens .now) s) ∙ sym (a .step-in .ensures) in
+    let here = step-judged (g .version) (g .tokens .now) s ∙ sym (a .step-in .ensures) in
     none-refused (g .version) (g .tokens .now) s (l .inv .0) (omega arith) (omega arith) (g .target) (omega arith) (c .enum-told2 .given .0 .0) (here ∙ c .enum-told2 .given .1)
 
 returns-4 : tie.Need-returns-4 Inv-loop μ-loop

@@ -1,14 +1,24 @@
+use mathlib.Core.Path.{_≡_, sym, _∙_}
 use Rattle.instruction.specs.Encoded.{bitsBy}
+use Rattle.instruction.proofs.Judging.{zeros-laid}
 use borrow.Author.Needs.{needs}
 use Rattle.instruction.proofs.bits_laid.Statement.{statement}
 use Rattle.instruction.proofs.bits_laid.Tie as tie
 
+has-zeros-requires : tie.Need-has-zeros-requires
+has-zeros-requires c κs = search needs
+
+returns : tie.Need-returns
+returns c =
+    let g = c .before .before .args in
+    sym (zeros-laid (g .shape) (g .token) (c .before .before .pre) (sym (c .before .has-zeros .ensures) ∙ c .if1 .taken))
+
 controls-laid-requires : tie.Need-controls-laid-requires
 controls-laid-requires c κs = search needs
 
-returns : tie.Need-returns
+returns-2 : tie.Need-returns-2
 unfolding bitsBy
-returns c = rw (c .controls-laid .ensures)
+returns-2 c = rw (c .controls-laid .ensures)
 
 pub bits-laid-spec : {M : Type 1} → statement M
-bits-laid-spec = tie.close (tie.spec controls-laid-requires returns)
+bits-laid-spec = tie.close (tie.spec has-zeros-requires returns controls-laid-requires returns-2)

@@ -1,87 +1,68 @@
-use mathlib.Core.Path.{_≡_, sym, _∙_}
-use Prim.Native.Nat.{_+_, _-_}
+use mathlib.Core.Path.{refl, sym, ap, _∙_}
+use Prim.Native.Nat.{_-_}
 use native.Mathlib.Omega.{arith}
-use lib.ListN.{length, length-drop}
-use borrow.Author.Tests.{le-leb, lt-leb}
-use Rattle.instruction.proofs.Heads.{judged-none, judged-some}
+use lib.ListN.{length, drop, getD, length-drop}
+use lib.Seq.{take-all}
+use Rattle.paper.specs.Numbers.{refusal}
+use Rattle.paper.specs.declared.Judged.the-variants.{Refused}
+use Rattle.paper.specs.declared.Reason.the-variants.{RunOut as RUN-OUT}
+use Rattle.instruction.specs.Numbered.{judgedFrom, judgedIn}
+use Rattle.instruction.proofs.Numbers.{judged-back}
+use Rattle.instruction.proofs.Heads.{judged-none}
+use Rattle.instruction.proofs.Judging.{judged-whole}
 use borrow.Author.Needs.{needs}
 use Rattle.instruction.proofs.judge.Statement.{statement}
 use Rattle.instruction.proofs.judge.Tie as tie
 
-refused-requires : tie.Need-refused-requires
-refused-requires c κs = search needs
+judged-of-requires : tie.Need-judged-of-requires
+judged-of-requires c κs = search needs
 
 returns : tie.Need-returns
-returns c = c .refused .ensures ∙ sym (judged-none _ _ (c .before .if1 .taken))
+returns c =
+    let g = c .before .before .before .args in
+    rw (judged-none (g .version) (g .tokens .now) (c .before .if1 .taken)) (c .judged-of .ensures ∙ judged-back (Refused (refusal RUN-OUT 0)))
 
-shared-slice-read-first : tie.Need-shared-slice-read-first
-shared-slice-read-first c = search needs
+shared-slice-read-judge-first : tie.Need-shared-slice-read-judge-first
+shared-slice-read-judge-first c = search needs
 
-read-head-requires : tie.Need-read-head-requires
-read-head-requires c κs = search needs
+sub-judge-first : tie.Need-sub-judge-first
+sub-judge-first c = search needs
 
-claim-of-requires : tie.Need-claim-of-requires
-claim-of-requires c κs = search needs
+part-judge-first-start : tie.Need-part-judge-first-start
+part-judge-first-start c = search needs
 
-add-judge-claimed : tie.Need-add-judge-claimed
-add-judge-claimed c = search needs
+part-judge-first-end : tie.Need-part-judge-first-end
+part-judge-first-end c = search needs
 
-sub-judge-claimed : tie.Need-sub-judge-claimed
-sub-judge-claimed c = search needs
+sub-judge-first-2 : tie.Need-sub-judge-first-2
+sub-judge-first-2 c = search needs
 
-part-judge-claimed-start : tie.Need-part-judge-claimed-start
-part-judge-claimed-start c = search needs
+judge-first-requires : tie.Need-judge-first-requires
+judge-first-requires c κs = search needs
 
-part-judge-claimed-end : tie.Need-part-judge-claimed-end
-part-judge-claimed-end c = search needs
-
-judge-claimed-requires : tie.Need-judge-claimed-requires
-judge-claimed-requires c κs = search needs
+judged-of-requires-2 : tie.Need-judged-of-requires-2
+judged-of-requires-2 c κs = search needs
 
 returns-2 : tie.Need-returns-2
 returns-2 c =
-    let g = c .before .before .before .before .before .before .before .before .args in
-    let claim = c .before .before .before .claim-of .result in
-    let whole : claim + 1 - 1 ≡ claim = omega arith in
-    rw (
-      judged-some (g .version) (g .tokens .now) (c .before .before .before .before .before .before .if1 .left),
-      ← (c .before .before .before .before .read-head .ensures),
-      ← (c .before .before .before .claim-of .ensures),
-      length-drop 1 (g .tokens .now),
-      le-leb claim (length (g .tokens .now) - 1) (omega arith),
-    )
-    (rw whole at (c .judge-claimed .ensures))
-
-refused-requires-2 : tie.Need-refused-requires-2
-refused-requires-2 c κs = search needs
-
-returns-3 : tie.Need-returns-3
-returns-3 c =
-    let g = c .before .before .before .before .before .before .before .args in
-    let claim = c .before .before .claim-of .result in
-    rw (
-      judged-some (g .version) (g .tokens .now) (c .before .before .before .before .before .if1 .left),
-      ← (c .before .before .before .read-head .ensures),
-      ← (c .before .before .claim-of .ensures),
-      length-drop 1 (g .tokens .now),
-      lt-leb claim (length (g .tokens .now) - 1) (omega arith),
-    )
-    (c .refused2 .ensures)
+    let g = c .before .before .before .before .before .before .args in
+    let rest = length (g .tokens .now) - 1 in
+    let told = judgedIn (g .version) (getD (g .tokens .now) 0 0) (drop 1 (g .tokens .now)) rest in
+    let shown = take-all rest (drop 1 (g .tokens .now)) (omega (arith, length-drop 1 (g .tokens .now))) in
+    rw (judged-whole (g .version) (g .tokens .now) rest (c .before .before .before .before .if1 .left) (sym (length-drop 1 (g .tokens .now))))
+    (c .judged-of2 .ensures ∙ ap judgedFrom (rw shown at (c .before .judge-first .ensures)) ∙ judged-back told)
 
 pub judge-spec : {M : Type 1} → statement M
 judge-spec =
     tie.close
     (tie.spec
-    refused-requires
+    judged-of-requires
     returns
-    shared-slice-read-first
-    read-head-requires
-    claim-of-requires
-    add-judge-claimed
-    sub-judge-claimed
-    part-judge-claimed-start
-    part-judge-claimed-end
-    judge-claimed-requires
-    returns-2
-    refused-requires-2
-    returns-3)
+    shared-slice-read-judge-first
+    sub-judge-first
+    part-judge-first-start
+    part-judge-first-end
+    sub-judge-first-2
+    judge-first-requires
+    judged-of-requires-2
+    returns-2)

@@ -1,54 +1,41 @@
 use mathlib.Core.Path.{sym, _∙_}
-use Rattle.instruction.proofs.Heads.{head-common, head-comment, head-end, head-other}
+use Rattle.instruction.proofs.Heads.{head-comment, head-end, head-other}
+use Rattle.instruction.proofs.Judging.{rule-few}
 use borrow.Author.Needs.{needs}
 use Rattle.instruction.proofs.read_head.Statement.{statement}
 use Rattle.instruction.proofs.read_head.Tie as tie
 
-common-places-requires : tie.Need-common-places-requires
-common-places-requires c κs = search needs
-
-cast-t15 : tie.Need-cast-t15
-cast-t15 c = search needs
-
-returns : tie.Need-returns
-returns c =
-    let found = c .before .common-places .ensures in
-    rw found (head-common _ _ (rw found at (c .if1 .taken)))
-
 comment-head-requires : tie.Need-comment-head-requires
 comment-head-requires c κs = search needs
 
-returns-2 : tie.Need-returns-2
-returns-2 c = c .comment-head .ensures ∙ sym (head-comment _ _ (c .before .if2 .taken))
+returns : tie.Need-returns
+returns c = c .comment-head .ensures ∙ sym (head-comment _ _ (c .before .if1 .taken))
 
 end-head-requires : tie.Need-end-head-requires
 end-head-requires c κs = search needs
 
-returns-3 : tie.Need-returns-3
-returns-3 c = c .end-head .ensures ∙ sym (head-end _ _ (c .before .if3 .taken))
+returns-2 : tie.Need-returns-2
+returns-2 c = c .end-head .ensures ∙ sym (head-end _ _ (c .before .if2 .taken))
 
 shape-of-requires : tie.Need-shape-of-requires
 shape-of-requires c κs = search needs
 
 shape-head-requires : tie.Need-shape-head-requires
-shape-head-requires c κs = search needs
+shape-head-requires c κs = rw (c .shape-of .ensures) (rule-few _ _)
 
-returns-4 : tie.Need-returns-4
-returns-4 c =
+returns-3 : tie.Need-returns-3
+returns-3 c =
     rw (c .shape-head .ensures, c .before .shape-of .ensures)
-    (sym (head-other _ _ (c .before .before .before .if2 .left) (c .before .before .if3 .left)))
+    (sym (head-other _ _ (c .before .before .before .if1 .left) (c .before .before .if2 .left)))
 
 pub read-head-spec : {M : Type 1} → statement M
 read-head-spec =
     tie.close
     (tie.spec
-    common-places-requires
-    cast-t15
-    returns
     comment-head-requires
-    returns-2
+    returns
     end-head-requires
-    returns-3
+    returns-2
     shape-of-requires
     shape-head-requires
-    returns-4)
+    returns-3)

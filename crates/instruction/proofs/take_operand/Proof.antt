@@ -1,16 +1,18 @@
+use mathlib.Core.Path.{refl, sym, _∙_}
 use Prim.Native.Nat.{_+_}
-use Rattle.instruction.proofs.Laws.{operand-none, operand-at}
+use native.Mathlib.Omega.{arith}
+use lib.ListN.{getD}
+use Rattle.paper.specs.OperandTokens.{freeSource, freeDestination, tokenAt}
+use Rattle.instruction.proofs.Laws.{operand-none, free-number, typed-number, raw-number}
+use Rattle.instruction.proofs.Numbers.{token-few}
 use borrow.Author.Needs.{needs}
 use Rattle.instruction.proofs.take_operand.Statement.{statement}
 use Rattle.instruction.proofs.take_operand.Tie as tie
 
-refused-operand-requires : tie.Need-refused-operand-requires
-refused-operand-requires c κs = search needs
-
 returns : tie.Need-returns
 returns c =
-    let g = c .before .before .before .args in
-    rw (operand-none (g .version) (g .place) (g .at + 1) (g .at) (g .behind .now) (c .before .if1 .taken)) (c .refused-operand .ensures)
+    let g = c .before .before .args in
+    rw (operand-none (g .version) (g .place) (g .at + 1) (g .at) (g .behind .now) (c .if1 .taken)) refl
 
 mul-token : tie.Need-mul-token
 mul-token c = search needs
@@ -18,61 +20,64 @@ mul-token c = search needs
 shared-slice-read-token : tie.Need-shared-slice-read-token
 shared-slice-read-token c = search needs
 
-judge-token-requires : tie.Need-judge-token-requires
-judge-token-requires c κs = search needs
+judge-source-requires : tie.Need-judge-source-requires
+judge-source-requires c κs = search needs
 
-enum-told : tie.Need-enum-told
-enum-told c = search needs
-
-enum-known-judged : tie.Need-enum-known-judged
-enum-known-judged c = search needs
-
-add-refused-operand : tie.Need-add-refused-operand
-add-refused-operand c = search needs
-
-refused-operand-requires-2 : tie.Need-refused-operand-requires-2
-refused-operand-requires-2 c κs = search needs
+take-free-requires : tie.Need-take-free-requires
+take-free-requires c κs =
+    let g = c .before .before .before .before .before .args in
+    (rw (c .judge-source .ensures) (token-few (tokenAt (g .version) freeSource (getD (g .behind .now) (g .at) 0))), omega arith, omega arith)
 
 returns-2 : tie.Need-returns-2
 returns-2 c =
-    let g = c .before .before .before .before .before .before .before .before .args in
-    rw (operand-at (g .version) (g .place) (g .at + 1) (g .at) (g .behind .now) (c .before .before .before .before .before .before .if1 .left), ← (c .before .before .before .before .judge-token .ensures), c .before .before .judged .given .1) (c .refused-operand2 .ensures)
+    let g = c .before .before .before .before .before .before .args in
+    rw (c .before .before .if2 .taken, free-number (g .version) freeSource (g .at + 1) (g .at) _ (g .behind .now) (c .before .before .before .before .if1 .left) (c .before .judge-source .ensures) (λ e. omega arith)) (c .take-free .ensures)
 
-brings-relative-requires : tie.Need-brings-relative-requires
-brings-relative-requires c κs = search needs
+judge-destination-requires : tie.Need-judge-destination-requires
+judge-destination-requires c κs = search needs
 
-add-take-relative : tie.Need-add-take-relative
-add-take-relative c = search needs
-
-take-relative-requires : tie.Need-take-relative-requires
-take-relative-requires c κs = search needs
+take-free-requires-2 : tie.Need-take-free-requires-2
+take-free-requires-2 c κs =
+    let g = c .before .before .before .before .before .before .args in
+    (rw (c .judge-destination .ensures) (token-few (tokenAt (g .version) freeDestination (getD (g .behind .now) (g .at) 0))), omega arith, omega arith)
 
 returns-3 : tie.Need-returns-3
 returns-3 c =
-    let g = c .before .before .before .before .before .before .before .before .before .args in
-    rw (operand-at (g .version) (g .place) (g .at + 1) (g .at) (g .behind .now) (c .before .before .before .before .before .before .before .if1 .left), ← (c .before .before .before .before .before .judge-token .ensures), c .before .before .before .enum-told .given .1, ← (c .before .before .brings-relative .ensures), c .before .if2 .taken) (c .take-relative .ensures)
+    let g = c .before .before .before .before .before .before .before .args in
+    rw (c .before .before .if3 .taken, free-number (g .version) freeDestination (g .at + 1) (g .at) _ (g .behind .now) (c .before .before .before .before .before .if1 .left) (c .before .judge-destination .ensures) (λ e. omega arith)) (c .take-free2 .ensures)
 
 returns-4 : tie.Need-returns-4
 returns-4 c =
+    let g = c .before .before .before .before .before .before .args in
+    sym (raw-number (g .version) (g .place) (g .at + 1) (g .at) 0 (g .behind .now) (c .before .before .before .before .if1 .left) (c .if4 .taken))
+
+judge-token-requires : tie.Need-judge-token-requires
+judge-token-requires c κs = search needs
+
+take-typed-requires : tie.Need-take-typed-requires
+take-typed-requires c κs =
+    let g = c .before .before .before .before .before .before .before .args in
+    (rw (c .judge-token .ensures) (token-few (tokenAt (g .version) (g .place) (getD (g .behind .now) (g .at) 0))), omega arith)
+
+returns-5 : tie.Need-returns-5
+returns-5 c =
     let g = c .before .before .before .before .before .before .before .before .args in
-    rw (operand-at (g .version) (g .place) (g .at + 1) (g .at) (g .behind .now) (c .before .before .before .before .before .before .if1 .left), ← (c .before .before .before .before .judge-token .ensures), c .before .before .enum-told .given .1, ← (c .before .brings-relative .ensures), c .if2 .left)
+    rw (typed-number (g .version) (g .place) (g .at + 1) (g .at) _ (g .behind .now) (c .before .before .before .before .before .before .if1 .left) (c .before .judge-token .ensures) (c .before .before .before .before .if2 .left) (c .before .before .before .if3 .left)) (c .take-typed .ensures)
 
 pub take-operand-spec : {M : Type 1} → statement M
 take-operand-spec =
     tie.close
     (tie.spec
-    refused-operand-requires
     returns
     mul-token
     shared-slice-read-token
-    judge-token-requires
-    enum-told
-    enum-known-judged
-    add-refused-operand
-    refused-operand-requires-2
+    judge-source-requires
+    take-free-requires
     returns-2
-    brings-relative-requires
-    add-take-relative
-    take-relative-requires
+    judge-destination-requires
+    take-free-requires-2
     returns-3
-    returns-4)
+    returns-4
+    judge-token-requires
+    take-typed-requires
+    returns-5)

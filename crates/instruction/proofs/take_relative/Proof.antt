@@ -1,61 +1,52 @@
-use Prim.Native.Nat.{_+_, _≤_}
-use lib.ListN.{length}
-use Rattle.instruction.proofs.Laws.{relative-none, relative-at}
+use mathlib.Core.Path.{refl, sym, _∙_}
+use Prim.Native.Nat.{_+_}
+use native.Mathlib.Omega.{arith}
+use lib.ListN.{getD}
+use borrow.Author.Tests.{eq-eqb, ne-eqb}
+use Rattle.paper.specs.OperandTokens.{relative, tokenAt}
+use Rattle.instruction.proofs.Laws.{relative-none, relative-number}
+use Rattle.instruction.proofs.Numbers.{token-few}
 use borrow.Author.Needs.{needs}
 use Rattle.instruction.proofs.take_relative.Statement.{statement}
 use Rattle.instruction.proofs.take_relative.Tie as tie
 
-refused-operand-requires : tie.Need-refused-operand-requires
-refused-operand-requires c κs = search needs
-
 returns : tie.Need-returns
 returns c =
-    let none : length (c .before .before .before .args .behind .now) ≤ c .before .before .before .args .at = c .before .if1 .taken in
-    rw relative-none (c .refused-operand .ensures)
+    let g = c .before .before .args in
+    rw (relative-none (g .version) (g .at + 1) (g .at) (g .behind .now) (c .if1 .taken)) refl
 
-mul-judge-token : tie.Need-mul-judge-token
-mul-judge-token c = search needs
+mul-judge-relative : tie.Need-mul-judge-relative
+mul-judge-relative c = search needs
 
-shared-slice-read-judge-token : tie.Need-shared-slice-read-judge-token
-shared-slice-read-judge-token c = search needs
+shared-slice-read-judge-relative : tie.Need-shared-slice-read-judge-relative
+shared-slice-read-judge-relative c = search needs
 
-judge-token-requires : tie.Need-judge-token-requires
-judge-token-requires c κs = search needs
-
-enum-told : tie.Need-enum-told
-enum-told c = search needs
-
-enum-known-judged : tie.Need-enum-known-judged
-enum-known-judged c = search needs
-
-add-refused-operand : tie.Need-add-refused-operand
-add-refused-operand c = search needs
-
-refused-operand-requires-2 : tie.Need-refused-operand-requires-2
-refused-operand-requires-2 c κs = search needs
+judge-relative-requires : tie.Need-judge-relative-requires
+judge-relative-requires c κs = search needs
 
 returns-2 : tie.Need-returns-2
 returns-2 c =
-    let g = c .before .before .before .before .before .before .args in
-    rw (relative-at (g .version) (g .at + 1) (g .at) (g .behind .now) (c .before .before .before .before .if1 .left), ← (c .before .before .judge-token .ensures), c .enum-told .given .1)
+    let g = c .before .before .before .before .before .args in
+    rw (relative-number (g .version) (g .at + 1) (g .at) _ (g .behind .now) (c .before .before .before .if1 .left) (c .before .judge-relative .ensures), c .if2 .taken) refl
+
+refused-at-requires : tie.Need-refused-at-requires
+refused-at-requires c κs =
+    let g = c .before .before .before .before .before .args in
+    (rw (c .before .judge-relative .ensures) (token-few (tokenAt (g .version) relative (getD (g .behind .now) (g .at) 0))), omega arith)
 
 returns-3 : tie.Need-returns-3
 returns-3 c =
-    let g = c .before .before .before .before .before .before .before .before .args in
-    rw (relative-at (g .version) (g .at + 1) (g .at) (g .behind .now) (c .before .before .before .before .before .before .if1 .left), ← (c .before .before .before .before .judge-token .ensures), c .before .before .judged .given .1) (c .refused-operand2 .ensures)
+    let g = c .before .before .before .before .before .before .args in
+    rw (relative-number (g .version) (g .at + 1) (g .at) _ (g .behind .now) (c .before .before .before .before .if1 .left) (c .before .before .judge-relative .ensures), ne-eqb _ _ (c .before .if2 .left)) (c .refused-at .ensures)
 
 pub take-relative-spec : {M : Type 1} → statement M
 take-relative-spec =
     tie.close
     (tie.spec
-    refused-operand-requires
     returns
-    mul-judge-token
-    shared-slice-read-judge-token
-    judge-token-requires
-    enum-told
-    enum-known-judged
-    add-refused-operand
-    refused-operand-requires-2
+    mul-judge-relative
+    shared-slice-read-judge-relative
+    judge-relative-requires
     returns-2
+    refused-at-requires
     returns-3)

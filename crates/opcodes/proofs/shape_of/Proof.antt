@@ -1,42 +1,54 @@
 -- `opcodes::shape_of` meets its contract: what it looks up is what the paper's table says.
-use mathlib.Core.Path.{sym}
-use Rattle.opcodes.proofs.Table.{rank-small, looked-up, dcl-shape, def-shape}
+use mathlib.Core.Path.{_≡_}
+use native.Mathlib.Omega.{arith}
 use borrow.Author.Needs.{needs}
+use borrow.Author.Tests.{eq-eqb, ne-eqb}
+use Rattle.paper.specs.OpcodeTable.{rows, entryOf}
+use Rattle.paper.specs.OperandTokens.{typedPlaces}
+use Rattle.opcodes.specs.Shape.{shapeOf}
+use Rattle.opcodes.proofs.Table.{rank-small, found, looked-up}
 use Rattle.opcodes.proofs.shape_of.Statement.{statement}
 use Rattle.opcodes.proofs.shape_of.Tie as tie
-use Rattle.opcodes.proofs.shape_of.Reads as reads
-use Rattle.opcodes.proofs.shape_of.Lts as lts
-use Rattle.opcodes.proofs.rank_of.Reads as rank-of-reads
-use Rattle.opcodes.proofs.row_of.Reads as row-of-reads
-use Rattle.opcodes.proofs.shape_at.Reads as shape-at-reads
 
--- src/lib.rt:261:9
-returns : tie.Need-returns
-returns c = rw (c .if1 .taken) (sym (dcl-shape (c .before .args .version)))
+-- each way through the code is one of the choices of `found`
+looks : (c : tie.After-row-of) →
+    found (c .before .rank-of .result) (c .before .before .args .opcode) (c .row-of .result)
+    ≡ shapeOf (c .before .before .args .version) (c .before .before .args .opcode)
+looks c =
+    looked-up (c .before .before .args .version) (c .before .before .args .opcode) _ _ (c .before .rank-of .ensures) (c .row-of .ensures)
 
--- src/lib.rt:264:9
-returns-2 : tie.Need-returns-2
-returns-2 c = rw (c .if2 .taken) (sym (def-shape (c .before .before .args .version)))
-
--- src/lib.rt:266:9
 rank-of-requires : tie.Need-rank-of-requires
 rank-of-requires c κs = search needs
 
--- src/lib.rt:267:9
 row-of-requires : tie.Need-row-of-requires
 row-of-requires c κs = search needs
 
--- src/lib.rt:268:5
-shape-at-requires : tie.Need-shape-at-requires
-shape-at-requires c κs = rank-small (c .before .before .before .before .args .version) _ (c .before .rank-of .ensures)
+cast-if1 : tie.Need-cast-if1
+cast-if1 c = search needs
 
--- src/lib.rt:256:1
+shr-if1 : tie.Need-shr-if1
+shr-if1 c = omega (arith, rank-small (c .before .before .args .version) _ (c .before .rank-of .ensures))
+
+returns : tie.Need-returns
+unfolding rows entryOf typedPlaces shapeOf
+returns c = rw (eq-eqb _ _ (c .before .if1 .taken), c .if2 .taken) at (looks (c .before .before))
+
+returns-2 : tie.Need-returns-2
+returns-2 c = rw (eq-eqb _ _ (c .before .if1 .taken), c .if2 .left) at (looks (c .before .before))
+
 returns-3 : tie.Need-returns-3
-returns-3 c =
-    let g = c .before .before .before .before .before .args in
-    looked-up (g .version) (g .opcode) _ _ _ (c .before .before .rank-of .ensures) (c .before .row-of .ensures) (c .shape-at .ensures)
+returns-3 c = rw (ne-eqb _ _ (c .before .if1 .left), eq-eqb _ _ (c .if3 .taken)) at (looks (c .before .before))
+
+mul-result : tie.Need-mul-result
+mul-result c = search needs
+
+add-result : tie.Need-add-result
+add-result c = search needs
+
+returns-4 : tie.Need-returns-4
+returns-4 c = rw (ne-eqb _ _ (c .before .if1 .left), ne-eqb _ _ (c .if3 .left)) at (looks (c .before .before))
 
 pub shape-of-spec : {M : Type 1} → statement M
 shape-of-spec =
     tie.close
-    (tie.spec returns returns-2 rank-of-requires row-of-requires shape-at-requires returns-3)
+    (tie.spec rank-of-requires row-of-requires cast-if1 shr-if1 returns returns-2 returns-3 mul-result add-result returns-4)

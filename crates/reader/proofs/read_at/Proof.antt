@@ -4,7 +4,7 @@ use lib.ListN.{length}
 use native.Mathlib.Omega.{arith}
 use borrow.Author.Tests.{le-ltb}
 use Rattle.reader.specs.Reading.{readingAt}
-use Rattle.reader.proofs.Steps.{runs-out, reads, refuses, can-read, next-fits, position-fits}
+use Rattle.reader.proofs.Steps.{runs-out, told-here, reads, refuses, can-read, next-fits, position-fits}
 use borrow.Author.Needs.{needs}
 use Rattle.reader.proofs.read_at.Statement.{statement}
 use Rattle.reader.proofs.read_at.Tie as tie
@@ -49,20 +49,23 @@ returns-2 c =
 add-end : tie.Need-add-end
 add-end c = search needs
 
-mul-judge-claimed : tie.Need-mul-judge-claimed
-mul-judge-claimed c = search needs
+mul-judge-first : tie.Need-mul-judge-first
+mul-judge-first c = search needs
 
-sub-judge-claimed : tie.Need-sub-judge-claimed
-sub-judge-claimed c = search needs
+sub-judge-first : tie.Need-sub-judge-first
+sub-judge-first c = search needs
 
-part-judge-claimed-start : tie.Need-part-judge-claimed-start
-part-judge-claimed-start c = search needs
+part-judge-first-start : tie.Need-part-judge-first-start
+part-judge-first-start c = search needs
 
-part-judge-claimed-end : tie.Need-part-judge-claimed-end
-part-judge-claimed-end c = search needs
+part-judge-first-end : tie.Need-part-judge-first-end
+part-judge-first-end c = search needs
 
-judge-claimed-requires : tie.Need-judge-claimed-requires
-judge-claimed-requires c κs = search needs
+judge-first-requires : tie.Need-judge-first-requires
+judge-first-requires c κs = search needs
+
+judged-of-requires : tie.Need-judged-of-requires
+judged-of-requires c κs = search needs
 
 enum-known-judged : tie.Need-enum-known-judged
 enum-known-judged c = search needs
@@ -81,28 +84,28 @@ part-read-record-end c = search needs
 
 read-record-requires : tie.Need-read-record-requires
 read-record-requires c κs =
-    let g = c .before .before .before .before .before .before .before .before .before .before .before .before .args in
-    let h = c .before .before .before .before .before .before .before .before .read-head in
-    let k = c .before .before .before .before .before .before .before .claim-of in
-    let some : g .at < length (g .tokens .now) = c .before .before .before .before .before .before .before .before .before .before .if1 .left in
-    can-read (g .version) (g .tokens .now) (g .at) some (h .result) (h .ensures) (k .result) (k .ensures) (c .before .before .before .before .before .before .if2 .left) _ refl _ _ (sym (c .before .before .before .before .judge-claimed .ensures) ∙ c .before .before .judged .given .1)
-
-add-next : tie.Need-add-next
-add-next c =
     let g = c .before .before .before .before .before .before .before .before .before .before .before .before .before .args in
     let h = c .before .before .before .before .before .before .before .before .before .read-head in
     let k = c .before .before .before .before .before .before .before .before .claim-of in
     let some : g .at < length (g .tokens .now) = c .before .before .before .before .before .before .before .before .before .before .before .if1 .left in
-    let next = next-fits (g .version) (g .tokens .now) (g .at) some (h .result) (h .ensures) (k .result) (k .ensures) (c .before .before .before .before .before .before .before .if2 .left) _ refl _ _ (sym (c .before .before .before .before .before .judge-claimed .ensures) ∙ c .before .before .before .judged .given .1) in
+    can-read (g .version) (g .tokens .now) (g .at) some (h .result) (h .ensures) (k .result) (k .ensures) (c .before .before .before .before .before .before .before .if2 .left) _ refl _ _ (told-here (g .version) (g .tokens .now) (g .at) some (h .result) (h .ensures) (k .result) (k .ensures) (c .before .before .before .before .before .before .before .if2 .left) _ refl _ _ (c .before .before .before .before .before .judge-first .ensures) (c .before .before .before .before .judged-of .ensures) ∙ c .before .before .judged .given .1)
+
+add-next : tie.Need-add-next
+add-next c =
+    let g = c .before .before .before .before .before .before .before .before .before .before .before .before .before .before .args in
+    let h = c .before .before .before .before .before .before .before .before .before .before .read-head in
+    let k = c .before .before .before .before .before .before .before .before .before .claim-of in
+    let some : g .at < length (g .tokens .now) = c .before .before .before .before .before .before .before .before .before .before .before .before .if1 .left in
+    let next = next-fits (g .version) (g .tokens .now) (g .at) some (h .result) (h .ensures) (k .result) (k .ensures) (c .before .before .before .before .before .before .before .before .if2 .left) _ refl _ _ (told-here (g .version) (g .tokens .now) (g .at) some (h .result) (h .ensures) (k .result) (k .ensures) (c .before .before .before .before .before .before .before .before .if2 .left) _ refl _ _ (c .before .before .before .before .before .before .judge-first .ensures) (c .before .before .before .before .before .judged-of .ensures) ∙ c .before .before .before .judged .given .1) in
     omega arith
 
 add-next-2 : tie.Need-add-next-2
 add-next-2 c =
-    let g = c .before .before .before .before .before .before .before .before .before .before .before .before .before .args in
-    let h = c .before .before .before .before .before .before .before .before .before .read-head in
-    let k = c .before .before .before .before .before .before .before .before .claim-of in
-    let some : g .at < length (g .tokens .now) = c .before .before .before .before .before .before .before .before .before .before .before .if1 .left in
-    let next = next-fits (g .version) (g .tokens .now) (g .at) some (h .result) (h .ensures) (k .result) (k .ensures) (c .before .before .before .before .before .before .before .if2 .left) _ refl _ _ (sym (c .before .before .before .before .before .judge-claimed .ensures) ∙ c .before .before .before .judged .given .1) in
+    let g = c .before .before .before .before .before .before .before .before .before .before .before .before .before .before .args in
+    let h = c .before .before .before .before .before .before .before .before .before .before .read-head in
+    let k = c .before .before .before .before .before .before .before .before .before .claim-of in
+    let some : g .at < length (g .tokens .now) = c .before .before .before .before .before .before .before .before .before .before .before .before .if1 .left in
+    let next = next-fits (g .version) (g .tokens .now) (g .at) some (h .result) (h .ensures) (k .result) (k .ensures) (c .before .before .before .before .before .before .before .before .if2 .left) _ refl _ _ (told-here (g .version) (g .tokens .now) (g .at) some (h .result) (h .ensures) (k .result) (k .ensures) (c .before .before .before .before .before .before .before .before .if2 .left) _ refl _ _ (c .before .before .before .before .before .before .judge-first .ensures) (c .before .before .before .before .before .judged-of .ensures) ∙ c .before .before .before .judged .given .1) in
     omega arith
 
 enum-known-judged-2 : tie.Need-enum-known-judged-2
@@ -110,11 +113,11 @@ enum-known-judged-2 c = search needs
 
 add-refused-at : tie.Need-add-refused-at
 add-refused-at c =
-    let g = c .before .before .before .before .before .before .before .before .before .before .before .before .args in
-    let h = c .before .before .before .before .before .before .before .before .read-head in
-    let k = c .before .before .before .before .before .before .before .claim-of in
-    let some : g .at < length (g .tokens .now) = c .before .before .before .before .before .before .before .before .before .before .if1 .left in
-    let inside = position-fits (g .version) (g .tokens .now) (g .at) some (h .result) (h .ensures) (k .result) (k .ensures) (c .before .before .before .before .before .before .if2 .left) _ refl _ (sym (c .before .before .before .before .judge-claimed .ensures) ∙ c .before .before .judged2 .given .1) in
+    let g = c .before .before .before .before .before .before .before .before .before .before .before .before .before .args in
+    let h = c .before .before .before .before .before .before .before .before .before .read-head in
+    let k = c .before .before .before .before .before .before .before .before .claim-of in
+    let some : g .at < length (g .tokens .now) = c .before .before .before .before .before .before .before .before .before .before .before .if1 .left in
+    let inside = position-fits (g .version) (g .tokens .now) (g .at) some (h .result) (h .ensures) (k .result) (k .ensures) (c .before .before .before .before .before .before .before .if2 .left) _ refl _ (told-here (g .version) (g .tokens .now) (g .at) some (h .result) (h .ensures) (k .result) (k .ensures) (c .before .before .before .before .before .before .before .if2 .left) _ refl _ _ (c .before .before .before .before .before .judge-first .ensures) (c .before .before .before .before .judged-of .ensures) ∙ c .before .before .judged2 .given .1) in
     omega arith
 
 refused-at-requires-3 : tie.Need-refused-at-requires-3
@@ -122,19 +125,19 @@ refused-at-requires-3 c κs = search needs
 
 returns-3 : tie.Need-returns-3
 returns-3 c =
-    let g = c .before .before .before .before .before .before .before .before .before .before .before .before .before .args in
-    let h = c .before .before .before .before .before .before .before .before .before .read-head in
-    let k = c .before .before .before .before .before .before .before .before .claim-of in
-    let some : g .at < length (g .tokens .now) = c .before .before .before .before .before .before .before .before .before .before .before .if1 .left in
-    rw (c .read-record .ensures) (sym (reads (g .version) (g .tokens .now) (g .at) some (h .result) (h .ensures) (k .result) (k .ensures) (c .before .before .before .before .before .before .before .if2 .left) _ refl _ _ (sym (c .before .before .before .before .before .judge-claimed .ensures) ∙ c .before .before .before .judged .given .1)))
+    let g = c .before .before .before .before .before .before .before .before .before .before .before .before .before .before .args in
+    let h = c .before .before .before .before .before .before .before .before .before .before .read-head in
+    let k = c .before .before .before .before .before .before .before .before .before .claim-of in
+    let some : g .at < length (g .tokens .now) = c .before .before .before .before .before .before .before .before .before .before .before .before .if1 .left in
+    rw (c .read-record .ensures) (sym (reads (g .version) (g .tokens .now) (g .at) some (h .result) (h .ensures) (k .result) (k .ensures) (c .before .before .before .before .before .before .before .before .if2 .left) _ refl _ _ (told-here (g .version) (g .tokens .now) (g .at) some (h .result) (h .ensures) (k .result) (k .ensures) (c .before .before .before .before .before .before .before .before .if2 .left) _ refl _ _ (c .before .before .before .before .before .before .judge-first .ensures) (c .before .before .before .before .before .judged-of .ensures) ∙ c .before .before .before .judged .given .1)))
 
 returns-4 : tie.Need-returns-4
 returns-4 c =
-    let g = c .before .before .before .before .before .before .before .before .before .before .before .before .before .args in
-    let h = c .before .before .before .before .before .before .before .before .before .read-head in
-    let k = c .before .before .before .before .before .before .before .before .claim-of in
-    let some : g .at < length (g .tokens .now) = c .before .before .before .before .before .before .before .before .before .before .before .if1 .left in
-    c .refused-at3 .ensures ∙ sym (refuses (g .version) (g .tokens .now) (g .at) some (h .result) (h .ensures) (k .result) (k .ensures) (c .before .before .before .before .before .before .before .if2 .left) _ refl _ (sym (c .before .before .before .before .before .judge-claimed .ensures) ∙ c .before .before .before .judged2 .given .1))
+    let g = c .before .before .before .before .before .before .before .before .before .before .before .before .before .before .args in
+    let h = c .before .before .before .before .before .before .before .before .before .before .read-head in
+    let k = c .before .before .before .before .before .before .before .before .before .claim-of in
+    let some : g .at < length (g .tokens .now) = c .before .before .before .before .before .before .before .before .before .before .before .before .if1 .left in
+    c .refused-at3 .ensures ∙ sym (refuses (g .version) (g .tokens .now) (g .at) some (h .result) (h .ensures) (k .result) (k .ensures) (c .before .before .before .before .before .before .before .before .if2 .left) _ refl _ (told-here (g .version) (g .tokens .now) (g .at) some (h .result) (h .ensures) (k .result) (k .ensures) (c .before .before .before .before .before .before .before .before .if2 .left) _ refl _ _ (c .before .before .before .before .before .before .judge-first .ensures) (c .before .before .before .before .before .judged-of .ensures) ∙ c .before .before .before .judged2 .given .1))
 
 pub read-at-spec : {M : Type 1} → statement M
 read-at-spec =
@@ -151,11 +154,12 @@ read-at-spec =
     refused-at-requires-2
     returns-2
     add-end
-    mul-judge-claimed
-    sub-judge-claimed
-    part-judge-claimed-start
-    part-judge-claimed-end
-    judge-claimed-requires
+    mul-judge-first
+    sub-judge-first
+    part-judge-first-start
+    part-judge-first-end
+    judge-first-requires
+    judged-of-requires
     enum-known-judged
     mul-read-record
     sub-read-record

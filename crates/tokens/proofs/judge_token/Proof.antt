@@ -1,55 +1,54 @@
-use mathlib.Core.Path.{_∙_, sym}
+use mathlib.Core.Path.{sym, _∙_, ap}
 use borrow.Author.Tests.{eq-eqb, ne-eqb}
-use Rattle.tokens.proofs.Laws.{not-raw, raw-good, plain-source-good, plain-temporary-good}
+use Rattle.tokens.proofs.Laws.{not-raw, raw-good, typed-not-relative}
+use Rattle.paper.specs.Numbers.{toldToken}
 use borrow.Author.Needs.{needs}
 use Rattle.tokens.proofs.judge_token.Statement.{statement}
 use Rattle.tokens.proofs.judge_token.Tie as tie
 
-plain-source-requires : tie.Need-plain-source-requires
-plain-source-requires c κs = search needs
+judge-source-requires : tie.Need-judge-source-requires
+judge-source-requires c κs = search needs
 
 returns : tie.Need-returns
-returns c = rw (c .before .before .if1 .taken) (plain-source-good _ _ (sym (c .before .plain-source .ensures) ∙ c .if2 .taken))
+returns c = rw (c .before .if1 .taken) (c .judge-source .ensures)
 
-free-source-requires : tie.Need-free-source-requires
-free-source-requires c κs = search needs
+judge-destination-requires : tie.Need-judge-destination-requires
+judge-destination-requires c κs = search needs
 
 returns-2 : tie.Need-returns-2
-returns-2 c = rw (c .before .before .before .if1 .taken) (c .free-source .ensures)
-
-plain-temporary-requires : tie.Need-plain-temporary-requires
-plain-temporary-requires c κs = search needs
+returns-2 c = rw (c .before .if2 .taken) (c .judge-destination .ensures)
 
 returns-3 : tie.Need-returns-3
-returns-3 c = rw (c .before .before .if3 .taken) (plain-temporary-good _ _ (sym (c .before .plain-temporary .ensures) ∙ c .if4 .taken))
+returns-3 c = ap toldToken (raw-good _ _ _ (eq-eqb _ _ (c .if3 .taken)))
 
-free-destination-requires : tie.Need-free-destination-requires
-free-destination-requires c κs = search needs
+typed-laid-requires : tie.Need-typed-laid-requires
+typed-laid-requires c κs =
+    let g = c .before .before .before .args in
+    typed-not-relative (g .version) (g .place) (c .before .before .if1 .left) (c .before .if2 .left)
+
+typed-at-requires : tie.Need-typed-at-requires
+typed-at-requires c κs = (ne-eqb _ _ (c .before .before .before .if2 .left), ne-eqb _ _ (c .before .before .before .before .if1 .left))
+
+told-typed-requires : tie.Need-told-typed-requires
+told-typed-requires c κs = search needs
 
 returns-4 : tie.Need-returns-4
-returns-4 c = rw (c .before .before .before .if3 .taken) (c .free-destination .ensures)
+returns-4 c = rw (not-raw _ _ _ (ne-eqb _ _ (c .before .before .before .before .if3 .left)), c .told-typed .ensures, c .before .typed-at .ensures, sym (c .before .before .before .typed-laid .ensures) ∙ c .before .before .if4 .taken)
 
 returns-5 : tie.Need-returns-5
-returns-5 c = raw-good _ _ _ (eq-eqb _ _ (c .if5 .taken))
-
-other-place-requires : tie.Need-other-place-requires
-other-place-requires c κs = search needs
-
-returns-6 : tie.Need-returns-6
-returns-6 c = c .other-place .ensures ∙ sym (not-raw _ _ _ (ne-eqb _ _ (c .before .if5 .left)))
+returns-5 c = rw (not-raw _ _ _ (ne-eqb _ _ (c .before .before .if3 .left)), sym (c .before .typed-laid .ensures) ∙ c .if4 .left)
 
 pub judge-token-spec : {M : Type 1} → statement M
 judge-token-spec =
     tie.close
     (tie.spec
-    plain-source-requires
+    judge-source-requires
     returns
-    free-source-requires
+    judge-destination-requires
     returns-2
-    plain-temporary-requires
     returns-3
-    free-destination-requires
+    typed-laid-requires
+    typed-at-requires
+    told-typed-requires
     returns-4
-    returns-5
-    other-place-requires
-    returns-6)
+    returns-5)

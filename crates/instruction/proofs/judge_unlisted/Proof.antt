@@ -1,0 +1,41 @@
+use native.Mathlib.Omega.{arith}
+use borrow.Author.Tests.{eq-eqb, ne-eqb, le-leb, lt-leb}
+use Rattle.instruction.specs.Numbered.{unlistedIn}
+use borrow.Author.Needs.{needs}
+use Rattle.instruction.proofs.judge_unlisted.Statement.{statement}
+use Rattle.instruction.proofs.judge_unlisted.Tie as tie
+
+cast-length : tie.Need-cast-length
+cast-length c = search needs
+
+returns : tie.Need-returns
+unfolding unlistedIn
+returns c = simp (eq-eqb _ _ (c .before .before .if1 .taken), eq-eqb _ _ (c .before .if2 .taken), lt-leb _ _ (c .if3 .taken))
+
+mul-result : tie.Need-mul-result
+mul-result c = search needs
+
+returns-2 : tie.Need-returns-2
+unfolding unlistedIn
+returns-2 c = simp (eq-eqb _ _ (c .before .before .if1 .taken), eq-eqb _ _ (c .before .if2 .taken), le-leb _ _ (c .if3 .left)) (omega arith)
+
+returns-3 : tie.Need-returns-3
+unfolding unlistedIn
+returns-3 c = simp (eq-eqb _ _ (c .before .if1 .taken), ne-eqb _ _ (c .if2 .left))
+
+returns-4 : tie.Need-returns-4
+unfolding unlistedIn
+returns-4 c = simp (ne-eqb _ _ (c .before .before .if1 .left), eq-eqb _ _ (c .before .if4 .taken), eq-eqb _ _ (c .if5 .taken))
+
+returns-5 : tie.Need-returns-5
+unfolding unlistedIn
+returns-5 c = simp (ne-eqb _ _ (c .before .before .if1 .left), eq-eqb _ _ (c .before .if4 .taken), ne-eqb _ _ (c .if5 .left))
+
+returns-6 : tie.Need-returns-6
+unfolding unlistedIn
+returns-6 c = simp (ne-eqb _ _ (c .before .if1 .left), ne-eqb _ _ (c .if4 .left))
+
+pub judge-unlisted-spec : {M : Type 1} → statement M
+judge-unlisted-spec =
+    tie.close
+    (tie.spec cast-length returns mul-result returns-2 returns-3 returns-4 returns-5 returns-6)
