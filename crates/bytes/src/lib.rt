@@ -48,14 +48,14 @@ fn fill(window: &mut [u32], bytes: &[u8], from: usize, n: usize)
     }
 }
 
-// The first `n` of the `left` tokens from `from` on, at the front of a window. Where there are enough, fifteen are read at once:
+// The first `n` of the `left` tokens from `from` on, at the front of a window. Where there are enough, sixteen are read at once:
 // no instruction but a comment has more, and a fixed number is copied in a few machine instructions.
 fn fill_window(window: &mut [u32], bytes: &[u8], from: usize, n: usize, left: usize)
     requires { ⌜ (n ≤ 15) × (n ≤ left) × (length (now window) ≡ 16) × (4 * (from + left) ≤ length (now bytes)) ⌝ }
     ensures { λ _. ⌜ take n (now (window .exit)) ≡ take n (drop from (tokensOf (now (bytes .entry)))) ⌝ }
 {
-    if 15 <= left {
-        fill(window, bytes, from, 15);
+    if 16 <= left {
+        fill(window, bytes, from, 16);
     } else {
         fill(window, bytes, from, n);
     }

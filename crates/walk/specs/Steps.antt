@@ -19,6 +19,9 @@ use Rattle.walk.specs.Kinds.{nextBy}
 abbrev pub wrapped : ℕ → ℕ
 wrapped n = n % 2 ^ 64
 
+abbrev pub stateOf : ℕ → ℕ → ℕ → State
+stateOf at count kinds = record { at = at; count = count; kinds = kinds }
+
 -- the state behind an instruction that takes so many tokens behind its first one
 abbrev pub behindOf : State → ℕ → Class → ℕ → State
 behindOf state size class kinds =

@@ -10,7 +10,7 @@ ghost use Rattle.paper.specs.declared.Class.the-variants.{One};
 ghost use Rattle.paper.specs.declared.Single.the-variants.{Plain};
 ghost use Rattle.instruction.specs.Numbered.{judgedFrom, judgedIn};
 ghost use Rattle.walk.specs.Kinds.{inLoopBy, allowedBy, standsBy, opensBy, closesBy, nextBy};
-ghost use Rattle.walk.specs.Steps.{wrapped, behindOf, onNextBy, onJudged, shownOf};
+ghost use Rattle.walk.specs.Steps.{wrapped, stateOf, behindOf, onNextBy, onJudged, shownOf};
 ghost use Rattle.walk.specs.declared.Stepped.the-variants.{On};
 use paper::Class;
 use paper::Closer;
@@ -201,10 +201,11 @@ fn passed(state: State, told: u64) -> Stepped
     ))
 }
 
-// The state behind an instruction of which this is told.
-fn moved(state: State, told: u64) -> Stepped
-    ensures { λ r. ⌜ r ≡ onJudged (judgedFrom told) state ⌝ }
+// The state behind an instruction of which this is told. A state's fields come one by one: they stay in registers.
+fn moved(at: usize, count: usize, kinds: u64, told: u64) -> Stepped
+    ensures { λ r. ⌜ r ≡ onJudged (judgedFrom told) (stateOf at count kinds) ⌝ }
 {
+    let state = State { at, count, kinds };
     let judged = instruction::judged_of(told);
     match judged {
         Judged::Good(size, class) => nested(state, size, class),
@@ -236,7 +237,7 @@ pub fn step(version: Version, state: State, first: u32, behind: &[u32], left: us
     if is_plain(told) {
         return passed(state, told);
     }
-    moved(state, told)
+    moved(state.at, state.count, state.kinds, told)
 }
 
 // The instruction at a place of these tokens, which is at `state` of the walk.
@@ -252,5 +253,5 @@ pub fn step_in(version: Version, state: State, tokens: &[u32], at: usize) -> Ste
     if is_plain(told) {
         return passed(state, told);
     }
-    moved(state, told)
+    moved(state.at, state.count, state.kinds, told)
 }

@@ -18,7 +18,7 @@ same-length c = search needs
 returns : tie.Need-returns
 returns c =
     let n = c .before .before .before .before .before .before .before .args .n in
-    sym (take-take n 15 (c .before .before .fill .last .0) (omega arith)) ∙ ap (take n) (c .before .before .fill .ensures) ∙ take-take n 15 _ (omega arith)
+    sym (take-take n 16 (c .before .before .fill .last .0) (omega arith)) ∙ ap (take n) (c .before .before .fill .ensures) ∙ take-take n 16 _ (omega arith)
 
 same-length-2 : tie.Need-same-length-2
 same-length-2 c = search needs
