@@ -15,6 +15,7 @@ use Rattle.paper.specs.OpcodeTable.{Entry, absent, listed, entryOf, DCL, IFC, B
 use Rattle.paper.specs.InstructionToken.{opcodeOf, controlsOf, statedSize, commentOpcode, commentLength, commentLaid, endOpcode, endToken, bitsLaid}
 use Rattle.paper.specs.OperandTokens.{typeOf, leftOver}
 use Rattle.paper.specs.Dcl.{declaredAt, usageLaid, refusedAs, onDeclared, declaration}
+use Rattle.paper.specs.Blocks.{classOf}
 use Rattle.paper.specs.Instruction.{Head as Said, broken, end, comment, dcl, operation, places, headOf, head, judged}
 use Rattle.paper.specs.declared.Version.{Version}
 use Rattle.paper.specs.declared.Reason.{Reason}
@@ -28,13 +29,14 @@ use Rattle.paper.specs.declared.Operands.the-variants.{Refused as unfit}
 use Rattle.paper.specs.declared.Judged.{Judged}
 use Rattle.paper.specs.declared.Judged.the-variants.{Good, Refused as Unfit}
 use Rattle.paper.specs.declared.Reason.the-variants.{Opcode as OPCODE, Bits as BITS, RunOut as RUN-OUT, Size as SIZE, Operand as OPERAND}
+use Rattle.opcodes.specs.Classes.{classNumber}
 use Rattle.opcodes.specs.Shape.{shapeOf}
-use Rattle.opcodes.proofs.Laws.{shape-absent, shape-rule}
+use Rattle.opcodes.proofs.Laws.{shape-absent, shape-rule, shape-class}
 use Rattle.opcodes.proofs.Table.{beyond}
 use Rattle.paper.proofs.Below.{both-left, both-right}
 use Rattle.instruction.specs.declared.Head.{Head}
 use Rattle.instruction.specs.declared.Head.the-variants.{Refused, End, Comment, Declaration, Operation}
-use Rattle.instruction.specs.Encoded.{encoded, claimOf, judgedBy, hasZeros, ruleIn, controlsBy, bitsBy, placesBy, headBy, operandsBy, listedIn}
+use Rattle.instruction.specs.Encoded.{encoded, claimOf, judgedBy, hasZeros, ruleIn, classIn, controlsBy, bitsBy, placesBy, headBy, operandsBy, listedIn}
 use Rattle.instruction.specs.Numbered.{roomFor, judgedWith, judgedIn, unlistedIn}
 use Rattle.instruction.proofs.Heads.{head-comment, head-end, head-other, claimed, judged-some}
 
@@ -138,6 +140,13 @@ module _ (v : Version) (first : ℕ) (behind : List ℕ) (left : ℕ) where
 module _ (v : Version) (first : ℕ) (some : shapeOf v (opcodeOf first) ≡ 0 → ⊥) where
   within-table : 97 ≤ opcodeOf first → ⊥
   within-table h = some (shape-absent v (opcodeOf first) (beyond v (opcodeOf first) h))
+
+  class-by : (entry : Entry) → entryOf v (opcodeOf first) ≡ entry → classIn (shapeOf v (opcodeOf first)) ≡ classNumber (classOf (opcodeOf first))
+  class-by absent e = absurd (some (shape-absent v (opcodeOf first) e))
+  class-by (listed letters) e = shape-class v (opcodeOf first) letters e
+
+  pub class-in : classIn (shapeOf v (opcodeOf first)) ≡ classNumber (classOf (opcodeOf first))
+  class-in = class-by (entryOf v (opcodeOf first)) refl
 
   head-listed : encoded (head v first) ≡ headBy (shapeOf v (opcodeOf first)) first
   head-listed =

@@ -24,7 +24,9 @@ use Rattle.paper.specs.declared.Operands.{Operands}
 use Rattle.paper.specs.declared.Operands.the-variants.{Fit, Refused as unfit}
 use Rattle.paper.specs.declared.Judged.{Judged}
 use Rattle.paper.specs.declared.Judged.the-variants.{Good, Refused}
-use Rattle.instruction.specs.Numbered.{classNumber, classBy, reasonBy, refusalNumber, takenNumber, operandsNumber, judgedNumber, judgedFrom}
+use Rattle.opcodes.specs.Classes.{classNumber}
+use Rattle.opcodes.proofs.Laws.{class-few}
+use Rattle.instruction.specs.Numbered.{classBy, reasonBy, refusalNumber, takenNumber, operandsNumber, judgedNumber, judgedFrom}
 
 class-back : (c : Class) → classBy (classNumber c) ≡ c
 class-back (One Comment) = refl
@@ -40,21 +42,6 @@ class-back (Closes EndIf) = refl
 class-back (Closes EndLoop) = refl
 class-back (Closes EndRep) = refl
 class-back (Closes End) = refl
-
-pub class-few : (c : Class) → classNumber c < 16
-class-few (One Comment) = lit< tt
-class-few (One Plain) = lit< tt
-class-few (One Break) = lit< tt
-class-few (One Label) = lit< tt
-class-few (One Return) = lit< tt
-class-few (Opens If) = lit< tt
-class-few (Opens Loop) = lit< tt
-class-few (Opens Rep) = lit< tt
-class-few (Closes Else) = lit< tt
-class-few (Closes EndIf) = lit< tt
-class-few (Closes EndLoop) = lit< tt
-class-few (Closes EndRep) = lit< tt
-class-few (Closes End) = lit< tt
 
 reason-back : (r : Reason) → reasonBy (numberOf r) ≡ r
 reason-back Length = refl

@@ -56,6 +56,9 @@ controlsBy rule controls =
 abbrev pub ruleIn : ℕ → ℕ
 ruleIn shape = shape / 2 ^ 38 % 4
 
+abbrev pub classIn : ℕ → ℕ
+classIn shape = shape / 2 ^ 41
+
 abbrev pub hasZeros : ℕ → Bool
 hasZeros token = eqb (token / 2 ^ 28) 0 && eqb (controlsOf token) 0
 

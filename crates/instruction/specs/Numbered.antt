@@ -7,6 +7,7 @@ use Rattle.paper.specs.Notation.{pick}
 use Rattle.paper.specs.Numbers.{numberOf, refusal}
 use Rattle.paper.specs.InstructionToken.{opcodeOf, commentOpcode, commentLength, commentLaid, endOpcode, endToken}
 use Rattle.paper.specs.Instruction.{head}
+use Rattle.opcodes.specs.Classes.{classNumber}
 use Rattle.paper.specs.declared.Version.{Version}
 use Rattle.paper.specs.declared.Reason.{Reason}
 use Rattle.paper.specs.declared.Reason.the-variants.{Length as LENGTH, Version as VERSION, Opcode as OPCODE, Bits as BITS, RunOut as RUN-OUT, Size as SIZE, Operand as OPERAND, Register as REGISTER, Block as BLOCK, Depth as DEPTH, Tail as TAIL, Place as PLACE, Room as ROOM, Record as RECORD}
@@ -25,21 +26,6 @@ use Rattle.paper.specs.declared.Judged.the-variants.{Good, Refused}
 use Rattle.instruction.specs.declared.Head.{Head}
 use Rattle.instruction.specs.declared.Head.the-variants.{Refused as broken, End, Comment, Declaration, Operation}
 use Rattle.instruction.specs.Encoded.{encoded, claimOf, judgedBy}
-
-abbrev pub classNumber : Class → ℕ
-classNumber (One A-comment) = 0
-classNumber (One Plain) = 1
-classNumber (One Break) = 2
-classNumber (One Label) = 3
-classNumber (One Return) = 4
-classNumber (Opens If) = 5
-classNumber (Opens Loop) = 6
-classNumber (Opens Rep) = 7
-classNumber (Closes Else) = 8
-classNumber (Closes EndIf) = 9
-classNumber (Closes EndLoop) = 10
-classNumber (Closes EndRep) = 11
-classNumber (Closes END) = 12
 
 -- a refusal's position, and the paper's number of its reason
 abbrev pub refusalNumber : Refusal → ℕ

@@ -4,13 +4,14 @@ ghost use Prim.Native.Nat.{_+_, _*_, _≤_, _<_};
 ghost use lib.Dec.{eqb};
 ghost use lib.ListN.{length, take, drop};
 ghost use Rattle.paper.specs.Notation.{bit, pick};
-ghost use Rattle.paper.specs.InstructionToken.{commentLaid, commentLength, endToken};
+ghost use Rattle.paper.specs.InstructionToken.{opcodeOf, commentLaid, commentLength, endToken};
 ghost use Rattle.paper.specs.Blocks.{classOf};
 ghost use Rattle.paper.specs.Dcl.{declaration};
 ghost use Rattle.paper.specs.Instruction.{head, relativeToken, operand, operands, judged};
+ghost use Rattle.opcodes.specs.Classes.{classNumber};
 ghost use Rattle.opcodes.specs.Places.{decoded};
-ghost use Rattle.instruction.specs.Encoded.{encoded, claimOf, ruleIn, hasZeros, controlsBy, bitsBy, placesBy, headBy, operandsBy, listedIn};
-ghost use Rattle.instruction.specs.Numbered.{classNumber, classBy, reasonBy, takenNumber, operandsNumber, judgedNumber, judgedFrom, judgedIn, unlistedIn};
+ghost use Rattle.instruction.specs.Encoded.{encoded, claimOf, ruleIn, classIn, hasZeros, controlsBy, bitsBy, placesBy, headBy, operandsBy, listedIn};
+ghost use Rattle.instruction.specs.Numbered.{classBy, reasonBy, takenNumber, operandsNumber, judgedNumber, judgedFrom, judgedIn, unlistedIn};
 use paper::Class;
 use paper::Closer;
 use paper::Judged;
@@ -164,28 +165,6 @@ pub fn claim_of(head: Head) -> usize
     }
 }
 
-// What an opcode is to the blocks, as a number.
-fn class_number(opcode: u32) -> u64
-    ensures { λ r. ⌜ r ≡ classNumber (classOf opcode) ⌝ }
-{
-    match opcode {
-        27 => 6,
-        28 => 4,
-        29 => 10,
-        30 => 3,
-        38 => 7,
-        39 => 11,
-        40 => 5,
-        41 => 5,
-        42 => 8,
-        43 => 9,
-        44 => 2,
-        45 => 2,
-        96 => 2,
-        _ => 1,
-    }
-}
-
 // A token's fault, the token being at `at` of those behind the instruction token.
 fn refused_at(told: u64, at: usize) -> u64
     requires { ⌜ (told < 16) × (at < 16) ⌝ }
@@ -315,6 +294,7 @@ fn judge_claimed(version: Version, shape: u64, first: u32, behind: &[u32]) -> u6
 
 // An instruction whose opcode has this shape, where the bits of its first token are as they must be.
 fn judge_listed(version: Version, shape: u64, first: u32, behind: &[u32]) -> u64
+    requires { ⌜ classIn shape ≡ classNumber (classOf (opcodeOf first)) ⌝ }
     ensures { λ r. ⌜ r ≡ judgedNumber (listedIn version shape first (now (behind .entry))) ⌝ }
 {
     let size = (first / 0x100_0000 % 16) as usize;
@@ -323,7 +303,7 @@ fn judge_listed(version: Version, shape: u64, first: u32, behind: &[u32]) -> u64
     }
     let told = judge_claimed(version, shape, first, &behind[..size]);
     if told == 0 {
-        return 32 * (size as u64) + 2 * class_number(first % 0x1_0000);
+        return 32 * (size as u64) + 2 * (shape / 0x200_0000_0000);
     }
     told
 }

@@ -12,6 +12,7 @@ use Rattle.paper.specs.Notation.{pick, among}
 use Rattle.paper.specs.Versions.{rank}
 use Rattle.paper.specs.OpcodeTable.{SINCOS, Row, absent, lookup, isOne, rows, entryOf}
 use Rattle.paper.specs.OperandTokens.{typedPlaces}
+use Rattle.paper.specs.Blocks.{classOf}
 use Rattle.paper.specs.declared.Version.{Version}
 use Rattle.paper.specs.declared.Version.the-variants.{V2, V3, P2, P3}
 use Rattle.opcodes.specs.Shape.{shapeOf}
@@ -98,7 +99,7 @@ right-beyond v opcode h = rw (beyond v opcode h, row-beyond opcode h, ne-eqb opc
     by P3 = refl
 
 agrees : (v : Version) (opcode : ℕ) → right v opcode ≡ true
-unfolding rows entryOf typedPlaces shapeOf rowOf
+unfolding rows entryOf typedPlaces classOf shapeOf rowOf
 agrees = computed right limit refl right-beyond
 
 -- what the code finds is what the paper's table says

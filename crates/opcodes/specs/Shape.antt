@@ -7,7 +7,9 @@ use Rattle.paper.specs.Notation.{pick, among}
 use Rattle.paper.specs.OpcodeTable.{Letter, Entry, absent, listed, entryOf, IFC, BREAKC, SETP, TEX}
 use Rattle.paper.specs.InstructionToken.{mayBePredicated}
 use Rattle.paper.specs.OperandTokens.{placesFrom}
+use Rattle.paper.specs.Blocks.{classOf}
 use Rattle.paper.specs.declared.Version.{Version}
+use Rattle.opcodes.specs.Classes.{classNumber}
 
 -- a row of places as one number: a digit of base 128 for each, the first place lowest; no place has number 0
 abbrev pub digits : List ℕ → ℕ
@@ -22,12 +24,12 @@ controlsRule opcode = pick (among opcode (IFC ∷ BREAKC ∷ SETP ∷ [])) 1 (pi
 abbrev pub predicateStep : Version → ℕ → List Letter → ℕ
 predicateStep v opcode letters = pick (mayBePredicated v opcode letters) (length letters) 0
 
--- bits 34:0 the places, 37:35 the predicate's step, 39:38 the rule of the controls, bit 40 one; an opcode that is not in the table has shape 0
+-- bits 34:0 the places, 37:35 the predicate's step, 39:38 the rule of the controls, bit 40 one, 44:41 the class; an opcode that is not in the table has shape 0
 abbrev pub shapeIn : Version → ℕ → Entry → ℕ
 shapeIn v opcode absent = 0
 shapeIn v opcode (listed letters) =
     digits (placesFrom opcode 0 letters)
-    + (2 ^ 35 * predicateStep v opcode letters + (2 ^ 38 * controlsRule opcode + 2 ^ 40))
+    + (2 ^ 35 * predicateStep v opcode letters + (2 ^ 38 * controlsRule opcode + (2 ^ 40 + 2 ^ 41 * classNumber (classOf opcode))))
 
 unfoldable pub shapeOf : Version → ℕ → ℕ
 shapeOf v opcode = shapeIn v opcode (entryOf v opcode)

@@ -1,6 +1,31 @@
 // The numbers of the table's rows. A row's number: bits 3:0 the versions, each at its rank; above them the shape that the row has in V3 and P3.
-// So its places begin at bit 4, its predicate's step at bit 39, its rule of the controls at bit 42; bit 44 is one.
+// So its places begin at bit 4, its predicate's step at bit 39, its rule of the controls at bit 42; bit 44 is one; its class begins at bit 45.
 const LISTED: u64 = 0x1000_0000_0000;
+
+// What an opcode is to the blocks, as specs/Classes.antt numbers it.
+const CLASS: u64 = 0x2000_0000_0000;
+
+const PLAIN: u64 = LISTED + CLASS;
+
+const BREAKS: u64 = LISTED + 2 * CLASS;
+
+const LABELS: u64 = LISTED + 3 * CLASS;
+
+const RETURNS: u64 = LISTED + 4 * CLASS;
+
+const OPENS_IF: u64 = LISTED + 5 * CLASS;
+
+const OPENS_LOOP: u64 = LISTED + 6 * CLASS;
+
+const OPENS_REP: u64 = LISTED + 7 * CLASS;
+
+const CLOSES_ELSE: u64 = LISTED + 8 * CLASS;
+
+const CLOSES_IF: u64 = LISTED + 9 * CLASS;
+
+const CLOSES_LOOP: u64 = LISTED + 10 * CLASS;
+
+const CLOSES_REP: u64 = LISTED + 11 * CLASS;
 
 const FIRST: u64 = 0x10;
 
@@ -51,54 +76,55 @@ const LABEL: u64 = SOURCE + 18;
 
 const INTEGER: u64 = SOURCE + 7;
 
-// The table's second column. Where there is a D, the predicate's step is the number of operands.
-const DS: u64 = LISTED + 2 * STEP + FIRST * (D + NEXT * S);
+// The table's second column. Where there is a D, the predicate's step is the number of operands. Opcodes of two classes have LABELLED, and
+// COMPARED: their rows add the class.
+const DS: u64 = PLAIN + 2 * STEP + FIRST * (D + NEXT * S);
 
-const MOVA: u64 = LISTED + 2 * STEP + FIRST * (DESTINATION + 3 + NEXT * S);
+const MOVA: u64 = PLAIN + 2 * STEP + FIRST * (DESTINATION + 3 + NEXT * S);
 
-const DSS: u64 = LISTED + 3 * STEP + FIRST * (D + NEXT * (S + NEXT * S));
+const DSS: u64 = PLAIN + 3 * STEP + FIRST * (D + NEXT * (S + NEXT * S));
 
-const SAMPLED: u64 = LISTED + 3 * STEP + FIRST * (D + NEXT * (S + NEXT * SAMPLER));
+const SAMPLED: u64 = PLAIN + 3 * STEP + FIRST * (D + NEXT * (S + NEXT * SAMPLER));
 
-const SETP: u64 = LISTED
+const SETP: u64 = PLAIN
     + COMPARISON
     + 3 * STEP
     + FIRST * (DESTINATION + 19 + NEXT * (S + NEXT * S));
 
-const DSSS: u64 = LISTED + 4 * STEP + FIRST * (D + NEXT * (S + NEXT * (S + NEXT * S)));
+const DSSS: u64 = PLAIN + 4 * STEP + FIRST * (D + NEXT * (S + NEXT * (S + NEXT * S)));
 
-const TEXLDD: u64 = LISTED
+const TEXLDD: u64 = PLAIN
     + 5 * STEP
     + FIRST * (D + NEXT * (S + NEXT * (SAMPLER + NEXT * (S + NEXT * S))));
 
-const TEXKILL: u64 = LISTED + STEP + FIRST * KILLED;
+const TEXKILL: u64 = PLAIN + STEP + FIRST * KILLED;
 
-const CALL: u64 = LISTED + FIRST * LABEL;
+const LABELLED: u64 = FIRST * LABEL;
 
-const REP: u64 = LISTED + FIRST * INTEGER;
+const REP: u64 = OPENS_REP + FIRST * INTEGER;
 
-const IF: u64 = LISTED + FIRST * CONDITION;
+const IF: u64 = OPENS_IF + FIRST * CONDITION;
 
-const CALLNZ: u64 = LISTED + FIRST * (LABEL + NEXT * CONDITION);
+const CALLNZ: u64 = PLAIN + FIRST * (LABEL + NEXT * CONDITION);
 
-const LOOP: u64 = LISTED + FIRST * (SOURCE + 15 + NEXT * INTEGER);
+const LOOP: u64 = OPENS_LOOP + FIRST * (SOURCE + 15 + NEXT * INTEGER);
 
-const BREAKP: u64 = LISTED + FIRST * (SOURCE + 19);
+const BREAKP: u64 = BREAKS + FIRST * (SOURCE + 19);
 
-const COMPARED: u64 = LISTED + COMPARISON + FIRST * (S + NEXT * S);
+const COMPARED: u64 = COMPARISON + FIRST * (S + NEXT * S);
 
-const DCL: u64 = LISTED + FIRST * (USAGE + NEXT * D);
+const DCL: u64 = PLAIN + FIRST * (USAGE + NEXT * D);
 
 const RRRR: u64 = RAW + NEXT * (RAW + NEXT * (RAW + NEXT * RAW));
 
-const DEF: u64 = LISTED + FIRST * (DESTINATION + 2 + NEXT * RRRR);
+const DEF: u64 = PLAIN + FIRST * (DESTINATION + 2 + NEXT * RRRR);
 
-const DEFI: u64 = LISTED + FIRST * (DESTINATION + 7 + NEXT * RRRR);
+const DEFI: u64 = PLAIN + FIRST * (DESTINATION + 7 + NEXT * RRRR);
 
-const DEFB: u64 = LISTED + FIRST * (DESTINATION + 14 + NEXT * RAW);
+const DEFB: u64 = PLAIN + FIRST * (DESTINATION + 14 + NEXT * RAW);
 
 // The rows.
-pub(crate) const NONE_ALL: u64 = LISTED + ALL;
+pub(crate) const NONE_ALL: u64 = PLAIN + ALL;
 
 pub(crate) const DS_ALL: u64 = DS + ALL;
 
@@ -132,9 +158,19 @@ pub(crate) const TEXLDD_P3: u64 = TEXLDD + P3_ALONE;
 
 pub(crate) const TEXKILL_PIXEL: u64 = TEXKILL + PIXEL;
 
-pub(crate) const NONE_BUT_P2: u64 = LISTED + ALL_BUT_P2;
+pub(crate) const RET_BUT_P2: u64 = RETURNS + ALL_BUT_P2;
 
-pub(crate) const CALL_BUT_P2: u64 = CALL + ALL_BUT_P2;
+pub(crate) const ENDLOOP_BUT_P2: u64 = CLOSES_LOOP + ALL_BUT_P2;
+
+pub(crate) const ENDREP_BUT_P2: u64 = CLOSES_REP + ALL_BUT_P2;
+
+pub(crate) const ELSE_BUT_P2: u64 = CLOSES_ELSE + ALL_BUT_P2;
+
+pub(crate) const ENDIF_BUT_P2: u64 = CLOSES_IF + ALL_BUT_P2;
+
+pub(crate) const CALL_BUT_P2: u64 = PLAIN + LABELLED + ALL_BUT_P2;
+
+pub(crate) const LABEL_BUT_P2: u64 = LABELS + LABELLED + ALL_BUT_P2;
 
 pub(crate) const REP_BUT_P2: u64 = REP + ALL_BUT_P2;
 
@@ -144,11 +180,13 @@ pub(crate) const CALLNZ_BUT_P2: u64 = CALLNZ + ALL_BUT_P2;
 
 pub(crate) const LOOP_BUT_P2: u64 = LOOP + ALL_BUT_P2;
 
-pub(crate) const BREAK_THIRD: u64 = LISTED + THIRD;
+pub(crate) const BREAK_THIRD: u64 = BREAKS + THIRD;
 
 pub(crate) const BREAKP_THIRD: u64 = BREAKP + THIRD;
 
-pub(crate) const COMPARED_THIRD: u64 = COMPARED + THIRD;
+pub(crate) const IFC_THIRD: u64 = OPENS_IF + COMPARED + THIRD;
+
+pub(crate) const BREAKC_THIRD: u64 = BREAKS + COMPARED + THIRD;
 
 pub(crate) const DCL_ALL: u64 = DCL + ALL;
 

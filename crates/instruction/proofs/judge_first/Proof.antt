@@ -3,7 +3,7 @@ use Prim.Native.Nat.{_-_}
 use native.Mathlib.Omega.{arith}
 use lib.ListN.{length}
 use lib.Seq.{take-all}
-use Rattle.instruction.proofs.Judging.{rule-few, judged-unlisted, judged-bits, judged-listed}
+use Rattle.instruction.proofs.Judging.{rule-few, judged-unlisted, judged-bits, class-in, judged-listed}
 use borrow.Author.Needs.{needs}
 use Rattle.instruction.proofs.judge_first.Statement.{statement}
 use Rattle.instruction.proofs.judge_first.Tie as tie
@@ -32,7 +32,10 @@ part-judge-listed-end : tie.Need-part-judge-listed-end
 part-judge-listed-end c = search needs
 
 judge-listed-requires : tie.Need-judge-listed-requires
-judge-listed-requires c κs = search needs
+judge-listed-requires c κs =
+    let g = c .before .before .before .before .before .before .args in
+    let shape = c .before .before .before .before .shape-of .ensures in
+    rw shape (class-in (g .version) (g .first) (λ z. c .before .before .before .if1 .left (shape ∙ z)))
 
 returns-2 : tie.Need-returns-2
 returns-2 c =

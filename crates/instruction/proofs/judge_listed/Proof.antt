@@ -1,5 +1,4 @@
-use mathlib.Core.Path.{_≡_, refl, sym, _∙_}
-use Prim.Native.Nat.{_%_, _<_}
+use mathlib.Core.Path.{refl, sym}
 use native.Mathlib.Omega.{arith}
 use lib.ListN.{length, take}
 use lib.Seq.{length-take-le}
@@ -7,7 +6,7 @@ use borrow.Author.Tests.{lt-leb, le-leb}
 use Rattle.paper.specs.InstructionToken.{opcodeOf, statedSize}
 use Rattle.paper.specs.Blocks.{classOf}
 use Rattle.instruction.specs.Encoded.{operandsBy}
-use Rattle.instruction.proofs.Numbers.{class-few, operands-number, operands-refused-number}
+use Rattle.instruction.proofs.Numbers.{operands-number, operands-refused-number}
 use borrow.Author.Needs.{needs}
 use Rattle.instruction.proofs.judge_listed.Statement.{statement}
 use Rattle.instruction.proofs.judge_listed.Tie as tie
@@ -33,23 +32,18 @@ judge-claimed-requires c κs =
 mul-result : tie.Need-mul-result
 mul-result c = search needs
 
-class-number-requires : tie.Need-class-number-requires
-class-number-requires c κs = search needs
-
 mul-result-2 : tie.Need-mul-result-2
-mul-result-2 c =
-    let few : c .class-number .result < 16 = rw (c .class-number .ensures) (class-few (classOf (c .before .before .before .before .before .before .args .first % 65536))) in omega arith
+mul-result-2 c = search needs
 
 add-result : tie.Need-add-result
-add-result c =
-    let few : c .class-number .result < 16 = rw (c .class-number .ensures) (class-few (classOf (c .before .before .before .before .before .before .args .first % 65536))) in omega arith
+add-result c = search needs
 
 returns-2 : tie.Need-returns-2
 returns-2 c =
-    let g = c .before .before .before .before .before .before .args in
+    let g = c .before .before .before .before .before .args in
     let size = statedSize (g .first) in
-    rw (le-leb size (length (g .behind .now)) (c .before .before .before .before .if1 .left), c .class-number .ensures)
-    (sym (operands-number (operandsBy (g .version) (g .shape) (g .first) (take size (g .behind .now))) _ size (classOf (opcodeOf (g .first))) (c .before .before .judge-claimed .ensures) (c .before .if2 .taken)))
+    rw (le-leb size (length (g .behind .now)) (c .before .before .before .if1 .left), c .before .before .before .before .before .pre)
+    (sym (operands-number (operandsBy (g .version) (g .shape) (g .first) (take size (g .behind .now))) _ size (classOf (opcodeOf (g .first))) (c .before .judge-claimed .ensures) (c .if2 .taken)))
 
 returns-3 : tie.Need-returns-3
 returns-3 c =
@@ -67,7 +61,6 @@ judge-listed-spec =
     slice-aggregate-judge-claimed
     judge-claimed-requires
     mul-result
-    class-number-requires
     mul-result-2
     add-result
     returns-2

@@ -2,13 +2,14 @@
 use mathlib.Core.Path.{sym}
 use Rattle.paper.specs.OpcodeTable.{rows, entryOf}
 use Rattle.paper.specs.OperandTokens.{typedPlaces}
+use Rattle.paper.specs.Blocks.{classOf}
 use Rattle.opcodes.specs.Rows.{rowOf}
 use Rattle.opcodes.proofs.Table.{no-row}
 use Rattle.opcodes.proofs.row_of.Statement.{statement}
 use Rattle.opcodes.proofs.row_of.Tie as tie
 
 pub row-of-spec : {M : Type 1} → statement M
-unfolding rows entryOf typedPlaces rowOf
+unfolding rows entryOf typedPlaces classOf rowOf
 row-of-spec =
     tie.close
     (tie.spec

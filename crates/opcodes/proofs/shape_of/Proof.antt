@@ -5,6 +5,7 @@ use borrow.Author.Needs.{needs}
 use borrow.Author.Tests.{eq-eqb, ne-eqb}
 use Rattle.paper.specs.OpcodeTable.{rows, entryOf}
 use Rattle.paper.specs.OperandTokens.{typedPlaces}
+use Rattle.paper.specs.Blocks.{classOf}
 use Rattle.opcodes.specs.Shape.{shapeOf}
 use Rattle.opcodes.proofs.Table.{rank-small, found, looked-up}
 use Rattle.opcodes.proofs.shape_of.Statement.{statement}
@@ -30,7 +31,7 @@ shr-if1 : tie.Need-shr-if1
 shr-if1 c = omega (arith, rank-small (c .before .before .args .version) _ (c .before .rank-of .ensures))
 
 returns : tie.Need-returns
-unfolding rows entryOf typedPlaces shapeOf
+unfolding rows entryOf typedPlaces classOf shapeOf
 returns c = rw (eq-eqb _ _ (c .before .if1 .taken), c .if2 .taken) at (looks (c .before .before))
 
 returns-2 : tie.Need-returns-2
