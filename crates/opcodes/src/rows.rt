@@ -76,8 +76,8 @@ const LABEL: u64 = SOURCE + 18;
 
 const INTEGER: u64 = SOURCE + 7;
 
-// The table's second column. Where there is a D, the predicate's step is the number of operands. Opcodes of two classes have LABELLED, and
-// COMPARED: their rows add the class.
+// The table's second column. Where there is a D, the predicate's step is the number of operands. LABELLED and COMPARED serve opcodes of
+// two classes: their rows add the class.
 const DS: u64 = PLAIN + 2 * STEP + FIRST * (D + NEXT * S);
 
 const MOVA: u64 = PLAIN + 2 * STEP + FIRST * (DESTINATION + 3 + NEXT * S);
