@@ -182,7 +182,8 @@ fn nested(state: State, size: usize, class: Class) -> Stepped
     }
 }
 
-// Whether what is told is a yes for an instruction that neither opens nor closes a block and may stand anywhere.
+// Whether what is told is a yes for an instruction that neither opens nor closes a block and may stand anywhere: an even number with
+// class 1, which stands doubled below the size.
 fn is_plain(told: u64) -> bool
     ensures { λ r. ⌜ r ≡ eqb (told % 32) 2 ⌝ }
 {
