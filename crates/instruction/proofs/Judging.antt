@@ -40,39 +40,27 @@ use Rattle.instruction.specs.Encoded.{encoded, claimOf, judgedBy, hasZer
 use Rattle.instruction.specs.Numbered.{roomFor, judgedWith, judgedIn, unlistedIn}
 use Rattle.instruction.proofs.Heads.{head-comment, head-end, head-other, claimed, judged-some}
 
--- "1 to 6", "0 to 2" and zero are all the rules of the controls
-rule-by : (compared textured : Bool) → pick compared 1 (pick textured 2 0) < 3
-rule-by true textured = lit< tt
-rule-by false true = lit< tt
-rule-by false false = lit< tt
-
-rule-in : (v : Version) (opcode : ℕ) (entry : Entry) → entryOf v opcode ≡ entry → ruleIn (shapeOf v opcode) < 3
-rule-in v opcode absent e = rw (shape-absent v opcode e) (lit< tt)
-rule-in v opcode (listed letters) e =
-    rw (shape-rule v opcode letters e) (rule-by (among opcode (IFC ∷ BREAKC ∷ SETP ∷ [])) (eqb opcode TEX))
-
-pub rule-few : (v : Version) (opcode : ℕ) → ruleIn (shapeOf v opcode) < 3
-rule-few v opcode = rule-in v opcode (entryOf v opcode) refl
-
--- where bits 31:28 and the controls are zero, only the rule "1 to 6" is broken
-zeros-by : (rule x : ℕ) → rule ≡ x % 4 → rule < 3 → controlsBy rule 0 ≡ eqb (x % 2) 0
-zeros-by zero x e few = sym (eq-eqb (x % 2) 0 (omega arith))
-zeros-by (suc zero) x e few = sym (ne-eqb (x % 2) 0 (λ z. omega arith))
-zeros-by (suc (suc zero)) x e few = sym (eq-eqb (x % 2) 0 (omega arith))
-zeros-by (suc (suc (suc n))) x e few = absurd (omega arith)
+-- where bits 31:28 and the controls are zero, only an odd rule is broken
+zeros-by : (rule x : ℕ) → rule ≡ x % 4 → (none two : Bool) → eqb rule 0 ≡ none → eqb rule 2 ≡ two → controlsBy rule 0 ≡ eqb (x % 2) 0
+zeros-by rule x e true two n t = let zeros = eqb-true rule 0 n in rw (n, eq-eqb (x % 2) 0 (omega arith)) refl
+zeros-by rule x e false true n t = let second = eqb-true rule 2 t in rw (n, t, eq-eqb (x % 2) 0 (omega arith)) refl
+zeros-by rule x e false false n t =
+    let some = eqb-false rule 0 n in
+    let other = eqb-false rule 2 t in
+    rw (n, t, ne-eqb (x % 2) 0 (λ z. omega arith)) refl
 
 and-true : (b : Bool) → b && true ≡ b
 and-true true = refl
 and-true false = refl
 
-pub zeros-laid : (shape token : ℕ) → ruleIn shape < 3 → hasZeros token ≡ true → bitsBy shape token ≡ eqb (shape / 2 ^ 38 % 2) 0
+pub zeros-laid : (shape token : ℕ) → hasZeros token ≡ true → bitsBy shape token ≡ eqb (shape / 2 ^ 38 % 2) 0
 unfolding bitsBy
-zeros-laid shape token few t =
+zeros-laid shape token t =
     let high : token / 2 ^ 28 ≡ 0 = eqb-true (token / 2 ^ 28) 0 (both-left (eqb (token / 2 ^ 28) 0) _ t) in
     let controls : controlsOf token ≡ 0 = eqb-true (controlsOf token) 0 (both-right (eqb (token / 2 ^ 28) 0) _ t) in
     let reserved : bits 31 29 token ≡ 0 = omega arith in
     let unpredicated : bit 28 token ≡ 0 = omega arith in
-    rw (reserved, controls, unpredicated, and-true (controlsBy (ruleIn shape) 0)) (zeros-by (ruleIn shape) (shape / 2 ^ 38) refl few)
+    rw (reserved, controls, unpredicated, and-true (controlsBy (ruleIn shape) 0)) (zeros-by (ruleIn shape) (shape / 2 ^ 38) refl (eqb (ruleIn shape) 0) (eqb (ruleIn shape) 2) refl refl)
 
 -- a DCL is refused at one of its three tokens
 near : (o : Operands) (r : Refusal) (p : ℕ) (reason : Reason) → o ≡ refusedAs reason p → p ≤ 2 → o ≡ unfit r → r .position ≤ 2

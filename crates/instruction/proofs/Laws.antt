@@ -2,7 +2,7 @@
 use mathlib.Core.Path.{_≡_, refl, sym, _∙_}
 use mathlib.Core.Bool.{Bool, true, false}
 use mathlib.Core.List.{List, [], _∷_}
-use Prim.Native.Nat.{ℕ, suc, _+_, _*_, _/_, _%_, _^_, _<_, _≤_}
+use Prim.Native.Nat.{ℕ, zero, suc, _+_, _*_, _/_, _%_, _^_, _<_, _≤_}
 use native.Mathlib.Numerals.{add-one}
 use native.Mathlib.Omega.{arith}
 use lib.Dec.{eqb}
@@ -21,7 +21,7 @@ use Rattle.paper.specs.declared.Token.the-variants.{Good, Bad}
 use Rattle.paper.specs.declared.Taken.{Taken}
 use Rattle.paper.specs.declared.Taken.the-variants.{Took, Refused}
 use Rattle.paper.specs.declared.Operands.the-variants.{Fit, Refused as Unfit}
-use Rattle.opcodes.specs.Places.{decoded}
+use Rattle.opcodes.specs.Places.{placesIn, decoded}
 use Rattle.tokens.proofs.Laws.{raw-good, not-free-not-relative}
 use Rattle.instruction.specs.Numbered.{takenNumber}
 use Rattle.instruction.proofs.Numbers.{on-token-number, taken-pick}
@@ -108,8 +108,43 @@ module _ (v : Version) (place offset n : ℕ) where
   operand-fits [] e = let z : _≡_ {A = ℕ} 0 1 = cc in absurd (omega arith)
   operand-fits (token ∷ rest) e = token-fits (tokenAt v place token) (bringsRelative place token) rest e
 
+  relative-few : (token : Token) → onToken token (offset + 1) (Took 2) ≡ Took n → n ≤ 2
+  relative-few Good e = let two : 2 ≡ n = cc in omega arith
+  relative-few (Bad reason) e = let z : _≡_ {A = ℕ} 0 1 = cc in absurd (omega arith)
+
+  brought-few : (brings : Bool) (rest : List ℕ) → pick brings (relativeToken v (offset + 1) rest) (Took 1) ≡ Took n → n ≤ 2
+  brought-few true [] e = let z : _≡_ {A = ℕ} 0 1 = cc in absurd (omega arith)
+  brought-few true (token ∷ rest) e = relative-few (tokenAt v relative token) e
+  brought-few false rest e = let one : 1 ≡ n = cc in omega arith
+
+  token-few : (judged : Token) (brings : Bool) (rest : List ℕ) →
+      onToken judged offset (pick brings (relativeToken v (offset + 1) rest) (Took 1)) ≡ Took n → n ≤ 2
+  token-few Good brings rest e = brought-few brings rest e
+  token-few (Bad reason) brings rest e = let z : _≡_ {A = ℕ} 0 1 = cc in absurd (omega arith)
+
+  pub operand-few : (tokens : List ℕ) → operand v place offset tokens ≡ Took n → n ≤ 2
+  unfolding operand
+  operand-few [] e = let z : _≡_ {A = ℕ} 0 1 = cc in absurd (omega arith)
+  operand-few (token ∷ rest) e = token-few (tokenAt v place token) (bringsRelative place token) rest e
+
   pub operand-within : (at : ℕ) (behind : List ℕ) → at ≤ length behind → operand v place offset (drop at behind) ≡ Took n → at + n ≤ length behind
   operand-within at behind h e = omega (arith, operand-fits (drop at behind) e, length-drop at behind)
+
+-- a number has at most ten places
+places-few : (f p : ℕ) → length (placesIn f p) ≤ f
+places-few zero p = omega arith
+places-few (suc f) p = one-more (eqb p 0) (placesIn f (p / 128)) (places-few f (p / 128))
+  where
+    one-more : (none : Bool) (rest : List ℕ) → length rest ≤ f → length (pick none [] (p % 128 ∷ rest)) ≤ suc f
+    one-more true rest h = omega arith
+    one-more false rest h = omega arith
+
+pub decoded-few : (p : ℕ) → length (decoded p) ≤ 10
+unfolding decoded
+decoded-few p = places-few 10 p
+
+pub decoded-less : (p : ℕ) → p < 2 ^ 64 → (p ≡ 0 → ⊥) → length (decoded p) ≡ suc (length (decoded (p / 128)))
+decoded-less p fits some = rw (decoded-step p fits some) refl
 
 -- the operands whose places are the digits of a number
 module _ (v : Version) (left at : ℕ) (behind : List ℕ) (fits : left < 2 ^ 64) (some : left ≡ 0 → ⊥) where

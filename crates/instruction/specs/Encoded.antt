@@ -48,10 +48,10 @@ judgedBy v (Comment length) first behind = Good length (One comment-of)
 judgedBy v (Declaration size) first behind = onOperands (declaration v behind) size (classOf (opcodeOf first))
 judgedBy v (Operation places size) first behind = onOperands (operands v (decoded places) 1 behind) size (classOf (opcodeOf first))
 
--- the same by the fields of a shape
+-- the same by the fields of a shape. The table has no rule 3; it is as rule 1, so that an odd rule alone forbids zero controls
 abbrev pub controlsBy : ℕ → ℕ → Bool
 controlsBy rule controls =
-    pick (eqb rule 1) (leb 1 controls && leb controls 6) (pick (eqb rule 2) (leb controls 2) (eqb controls 0))
+    pick (eqb rule 0) (eqb controls 0) (pick (eqb rule 2) (leb controls 2) (leb 1 controls && leb controls 6))
 
 abbrev pub ruleIn : ℕ → ℕ
 ruleIn shape = shape / 2 ^ 38 % 4

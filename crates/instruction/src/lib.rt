@@ -10,7 +10,7 @@ ghost use Rattle.paper.specs.Dcl.{declaration};
 ghost use Rattle.paper.specs.Instruction.{head, relativeToken, operand, operands, judged};
 ghost use Rattle.opcodes.specs.Classes.{classNumber};
 ghost use Rattle.opcodes.specs.Places.{decoded};
-ghost use Rattle.instruction.specs.Encoded.{encoded, claimOf, ruleIn, classIn, hasZeros, controlsBy, bitsBy, placesBy, headBy, operandsBy, listedIn};
+ghost use Rattle.instruction.specs.Encoded.{encoded, claimOf, classIn, hasZeros, controlsBy, bitsBy, placesBy, headBy, operandsBy, listedIn};
 ghost use Rattle.instruction.specs.Numbered.{classBy, reasonBy, takenNumber, operandsNumber, judgedNumber, judgedFrom, judgedIn, unlistedIn};
 use paper::Class;
 use paper::Closer;
@@ -62,13 +62,13 @@ pub enum Head {
 fn controls_laid(rule: u64, controls: u32) -> bool
     ensures { λ r. ⌜ r ≡ controlsBy rule controls ⌝ }
 {
-    if rule == 1 {
-        return (1 <= controls) & (controls <= 6);
+    if rule == 0 {
+        return controls == 0;
     }
     if rule == 2 {
         return controls <= 2;
     }
-    controls == 0
+    (1 <= controls) & (controls <= 6)
 }
 
 // Neither a reserved bit, nor a predicate, nor controls.
@@ -80,7 +80,6 @@ fn has_zeros(token: u32) -> bool
 
 // Bits 31 to 16 of an instruction token, by the shape of its opcode. Most have zeros there, which only a comparison may not.
 fn bits_laid(shape: u64, token: u32) -> bool
-    requires { ⌜ ruleIn shape < 3 ⌝ }
     ensures { λ r. ⌜ r ≡ bitsBy shape token ⌝ }
 {
     if has_zeros(token) {
@@ -122,7 +121,6 @@ fn end_head(token: u32) -> Head
 
 // The head of an instruction whose opcode has this shape.
 fn shape_head(shape: u64, token: u32) -> Head
-    requires { ⌜ ruleIn shape < 3 ⌝ }
     ensures { λ r. ⌜ r ≡ headBy shape token ⌝ }
 {
     if shape == 0 {
@@ -167,7 +165,7 @@ pub fn claim_of(head: Head) -> usize
 
 // A token's fault, the token being at `at` of those behind the instruction token.
 fn refused_at(told: u64, at: usize) -> u64
-    requires { ⌜ (told < 16) × (at < 16) ⌝ }
+    requires { ⌜ (told < 16) × (at < 64) ⌝ }
     ensures { λ r. ⌜ r ≡ 32 * (at + 1) + (2 * told + 1) ⌝ }
 {
     32 * (at as u64 + 1) + (2 * told + 1)
@@ -175,7 +173,7 @@ fn refused_at(told: u64, at: usize) -> u64
 
 // The relative token that bit 13 brings, the token at `at` of those behind the instruction token.
 fn take_relative(version: Version, behind: &[u32], at: usize) -> u64
-    requires { ⌜ (at ≤ length (now behind)) × (length (now behind) < 16) ⌝ }
+    requires { ⌜ (at ≤ length (now behind)) × (at < 64) ⌝ }
     ensures { λ r. ⌜ r ≡ takenNumber (relativeToken version (at + 1) (drop at (now (behind .entry)))) ⌝ }
 {
     if behind.len() <= at {
@@ -190,7 +188,7 @@ fn take_relative(version: Version, behind: &[u32], at: usize) -> u64
 
 // The operand at a free place, its token at `at` being told of already. Bit 13 brings a relative token.
 fn take_free(version: Version, told: u64, token: u32, behind: &[u32], at: usize) -> u64
-    requires { ⌜ (told < 16) × (at < length (now behind)) × (length (now behind) < 16) ⌝ }
+    requires { ⌜ (told < 16) × (at < length (now behind)) × (at < 32) ⌝ }
     ensures { λ r. ⌜ r ≡ pick (eqb told 0) (pick (eqb (bit 13 token) 1) (takenNumber (relativeToken version (at + 1 + 1) (drop (at + 1) (now (behind .entry))))) 2) (32 * (at + 1) + (2 * told + 1)) ⌝ }
 {
     if told != 0 {
@@ -204,7 +202,7 @@ fn take_free(version: Version, told: u64, token: u32, behind: &[u32], at: usize)
 
 // The operand at a place that is not free: one token.
 fn take_typed(told: u64, at: usize) -> u64
-    requires { ⌜ (told < 16) × (at < 16) ⌝ }
+    requires { ⌜ (told < 16) × (at < 64) ⌝ }
     ensures { λ r. ⌜ r ≡ pick (eqb told 0) 2 (32 * (at + 1) + (2 * told + 1)) ⌝ }
 {
     if told == 0 {
@@ -215,7 +213,7 @@ fn take_typed(told: u64, at: usize) -> u64
 
 // The operand at `at` of the tokens behind the instruction token.
 fn take_operand(version: Version, place: u64, behind: &[u32], at: usize) -> u64
-    requires { ⌜ (at ≤ length (now behind)) × (length (now behind) < 16) ⌝ }
+    requires { ⌜ (at ≤ length (now behind)) × (at < 32) ⌝ }
     ensures { λ r. ⌜ r ≡ takenNumber (operand version place (at + 1) (drop at (now (behind .entry)))) ⌝ }
 {
     if behind.len() <= at {
@@ -246,9 +244,9 @@ fn take_operand(version: Version, place: u64, behind: &[u32], at: usize) -> u64
     take_typed(tokens::judge_token(version, place, token), at)
 }
 
-// The operands at these places, from left to right, and no token more.
+// The operands at these places, from left to right, and no token more. A number of 64 bits has at most ten places, and an operand takes
+// at most two tokens.
 fn judge_operands(version: Version, places: u64, behind: &[u32]) -> u64
-    requires { ⌜ length (now behind) < 16 ⌝ }
     ensures { λ r. ⌜ r ≡ operandsNumber (operands version (decoded places) 1 (now (behind .entry))) ⌝ }
 {
     let mut left = places;
@@ -283,7 +281,6 @@ fn judge_declared(version: Version, behind: &[u32]) -> u64
 
 // The operands of an instruction that claims these tokens.
 fn judge_claimed(version: Version, shape: u64, first: u32, behind: &[u32]) -> u64
-    requires { ⌜ length (now behind) < 16 ⌝ }
     ensures { λ r. ⌜ r ≡ operandsNumber (operandsBy version shape first (now (behind .entry))) ⌝ }
 {
     if first % 0x1_0000 == 31 {

@@ -11,7 +11,7 @@ has-zeros-requires c κs = search needs
 returns : tie.Need-returns
 returns c =
     let g = c .before .before .args in
-    sym (zeros-laid (g .shape) (g .token) (c .before .before .pre) (sym (c .before .has-zeros .ensures) ∙ c .if1 .taken))
+    sym (zeros-laid (g .shape) (g .token) (sym (c .before .has-zeros .ensures) ∙ c .if1 .taken))
 
 controls-laid-requires : tie.Need-controls-laid-requires
 controls-laid-requires c κs = search needs

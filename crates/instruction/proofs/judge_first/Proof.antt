@@ -3,7 +3,7 @@ use Prim.Native.Nat.{_-_}
 use native.Mathlib.Omega.{arith}
 use lib.ListN.{length}
 use lib.Seq.{take-all}
-use Rattle.instruction.proofs.Judging.{rule-few, judged-unlisted, judged-bits, class-in, judged-listed}
+use Rattle.instruction.proofs.Judging.{judged-unlisted, judged-bits, class-in, judged-listed}
 use borrow.Author.Needs.{needs}
 use Rattle.instruction.proofs.judge_first.Statement.{statement}
 use Rattle.instruction.proofs.judge_first.Tie as tie
@@ -20,7 +20,7 @@ returns c =
     rw (judged-unlisted (g .version) (g .first) (g .behind .now) (g .left) (sym (c .before .before .shape-of .ensures) ∙ c .before .if1 .taken)) (c .judge-unlisted .ensures)
 
 bits-laid-requires : tie.Need-bits-laid-requires
-bits-laid-requires c κs = rw (c .before .shape-of .ensures) (rule-few _ _)
+bits-laid-requires c κs = search needs
 
 sub-judge-listed : tie.Need-sub-judge-listed
 sub-judge-listed c = search needs

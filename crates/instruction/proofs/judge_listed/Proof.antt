@@ -1,5 +1,4 @@
 use mathlib.Core.Path.{refl, sym}
-use native.Mathlib.Omega.{arith}
 use lib.ListN.{length, take}
 use lib.Seq.{length-take-le}
 use borrow.Author.Tests.{lt-leb, le-leb}
@@ -24,10 +23,7 @@ slice-aggregate-judge-claimed c =
     sym (length-take-le size (g .behind .now) (c .before .if1 .left))
 
 judge-claimed-requires : tie.Need-judge-claimed-requires
-judge-claimed-requires c κs =
-    let g = c .before .before .before .args in
-    let size = statedSize (g .first) in
-    omega (arith, length-take-le size (g .behind .now) (c .before .if1 .left))
+judge-claimed-requires c κs = search needs
 
 mul-result : tie.Need-mul-result
 mul-result c = search needs

@@ -1,11 +1,11 @@
 use mathlib.Core.Path.{_≡_, refl, sym, ap, _∙_}
-use Prim.Native.Nat.{_+_, _/_, _%_, _≤_}
+use Prim.Native.Nat.{_+_, _*_, _/_, _%_, _≤_}
 use native.Mathlib.Omega.{arith}
 use lib.ListN.{length, drop}
 use Rattle.paper.specs.Instruction.{operand, operands}
 use Rattle.opcodes.specs.Places.{decoded}
 use Rattle.instruction.specs.Numbered.{operandsNumber}
-use Rattle.instruction.proofs.Laws.{operand-within, operands-on, operands-refused, operands-fit, operands-over}
+use Rattle.instruction.proofs.Laws.{operand-within, operand-few, decoded-few, decoded-less, operands-on, operands-refused, operands-fit, operands-over}
 use Rattle.instruction.proofs.Numbers.{taken-even, taken-odd}
 use Rattle.instruction.proofs.judge_operands.Statement.{statement}
 use Rattle.instruction.proofs.judge_operands.Tie as tie
@@ -14,13 +14,14 @@ abbrev Inv-loop : tie.InvT-loop
 Inv-loop version places behind left₀ at₀ left at =
     (at ≤ length behind)
     × (left ≤ places)
+    × (at + 2 * length (decoded left) ≤ 20)
     × (operands version (decoded left) (at + 1) (drop at behind) ≡ operands version (decoded places) 1 behind)
 
 abbrev μ-loop : tie.MeasureT-loop
 μ-loop version places behind left₀ at₀ left at = left
 
 loop-holds : tie.Need-loop-holds Inv-loop μ-loop
-loop-holds c = (omega arith, omega arith, refl)
+loop-holds c = (omega arith, omega arith, omega (arith, decoded-few (c .before .args .places)), refl)
 
 take-operand-requires : tie.Need-take-operand-requires Inv-loop μ-loop
 take-operand-requires c κs = (omega arith, omega arith)
@@ -32,7 +33,7 @@ returns c =
     let odd = taken-odd (operand (g .version) (l .left % 128) (l .at + 1) (drop (l .at) (g .behind .now))) _ (c .before .take-operand .ensures) (c .if1 .taken) in
     odd .2
     ∙ ap operandsNumber
-    (sym (operands-refused (g .version) (l .left) (l .at) (g .behind .now) (omega arith) (c .before .before .loop-test .taken) _ (odd .1)) ∙ l .inv .2)
+    (sym (operands-refused (g .version) (l .left) (l .at) (g .behind .now) (omega arith) (c .before .before .loop-test .taken) _ (odd .1)) ∙ l .inv .3)
 
 add-at : tie.Need-add-at Inv-loop μ-loop
 add-at c =
@@ -50,10 +51,13 @@ loop-again c =
     let g = c .before .before .before .before .before .args in
     let l = c .before .before .before .loop in
     let took = taken-even (operand (g .version) (l .left % 128) (l .at + 1) (drop (l .at) (g .behind .now))) _ (c .before .take-operand .ensures) (c .if1 .left) in
-    let within = operand-within (g .version) (l .left % 128) (l .at + 1) _ (l .at) (g .behind .now) (l .inv .0) took in (
+    let within = operand-within (g .version) (l .left % 128) (l .at + 1) _ (l .at) (g .behind .now) (l .inv .0) took in
+    let few = operand-few (g .version) (l .left % 128) (l .at + 1) _ (drop (l .at) (g .behind .now)) took in
+    let less = decoded-less (l .left) (omega arith) (c .before .before .loop-test .taken) in (
       omega arith,
       omega arith,
-      operands-on (g .version) (l .left) (l .at) (g .behind .now) (omega arith) (c .before .before .loop-test .taken) _ took ∙ l .inv .2,
+      omega arith,
+      operands-on (g .version) (l .left) (l .at) (g .behind .now) (omega arith) (c .before .before .loop-test .taken) _ took ∙ l .inv .3,
     )
 
 returns-2 : tie.Need-returns-2 Inv-loop μ-loop
@@ -61,14 +65,14 @@ returns-2 c =
     let g = c .before .before .before .before .args in
     let l = c .before .before .loop in
     ap operandsNumber
-    (sym (operands-fit (g .version) (l .left) (l .at + 1) (l .at) (g .behind .now) (c .before .loop-test .left) (c .if2 .taken)) ∙ l .inv .2)
+    (sym (operands-fit (g .version) (l .left) (l .at + 1) (l .at) (g .behind .now) (c .before .loop-test .left) (c .if2 .taken)) ∙ l .inv .3)
 
 returns-3 : tie.Need-returns-3 Inv-loop μ-loop
 returns-3 c =
     let g = c .before .before .before .before .args in
     let l = c .before .before .loop in
     ap operandsNumber
-    (sym (operands-over (g .version) (l .left) (l .at + 1) (l .at) (g .behind .now) (c .before .loop-test .left) (l .inv .0) (c .if2 .left)) ∙ l .inv .2)
+    (sym (operands-over (g .version) (l .left) (l .at + 1) (l .at) (g .behind .now) (c .before .loop-test .left) (l .inv .0) (c .if2 .left)) ∙ l .inv .3)
 
 pub judge-operands-spec : {M : Type 1} → statement M
 judge-operands-spec =

@@ -1,6 +1,5 @@
 use mathlib.Core.Path.{sym, _∙_}
 use Rattle.instruction.proofs.Heads.{head-comment, head-end, head-other}
-use Rattle.instruction.proofs.Judging.{rule-few}
 use borrow.Author.Needs.{needs}
 use Rattle.instruction.proofs.read_head.Statement.{statement}
 use Rattle.instruction.proofs.read_head.Tie as tie
@@ -21,7 +20,7 @@ shape-of-requires : tie.Need-shape-of-requires
 shape-of-requires c κs = search needs
 
 shape-head-requires : tie.Need-shape-head-requires
-shape-head-requires c κs = rw (c .shape-of .ensures) (rule-few _ _)
+shape-head-requires c κs = search needs
 
 returns-3 : tie.Need-returns-3
 returns-3 c =
