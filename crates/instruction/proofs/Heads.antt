@@ -1,13 +1,13 @@
 -- The head of an instruction by the shape of its opcode.
-use mathlib.Core.Path.{_≡_, refl, sym, _∙_}
+use mathlib.Core.Path.{_≡_, refl, sym}
 use mathlib.Core.Bool.{Bool, true, false, not, _&&_, _||_}
 use mathlib.Core.List.{List, [], _∷_}
-use Prim.Native.Nat.{ℕ, suc, _*_, _/_, _%_, _^_, _<_, _≤_}
+use Prim.Native.Nat.{ℕ, suc, _*_, _%_, _^_, _<_, _≤_}
 use native.Mathlib.Nat.{mod-eq-of-lt, pow-le-pow-right}
 use native.Mathlib.Omega.{arith}
 use lib.Dec.{eqb, leb, lit<, leb·zero}
 use lib.ListN.{length, take, drop, getD}
-use borrow.Author.Tests.{eq-eqb, ne-eqb, eqb-true, eqb-false, not-true}
+use borrow.Author.Tests.{ne-eqb, eqb-true}
 use Rattle.paper.specs.Notation.{pick, among, bits, bit}
 use Rattle.paper.specs.OpcodeTable.{Letter, Entry, absent, listed, entryOf, DCL, DEF, DEFI, DEFB, IFC, BREAKC, SETP, TEX}
 use Rattle.paper.specs.Versions.{isThird}
@@ -25,7 +25,7 @@ use Rattle.paper.specs.declared.Judged.the-variants.{Refused as Unfit}
 use Rattle.paper.specs.declared.Reason.the-variants.{Bits as BITS, RunOut as RUN-OUT}
 use Rattle.opcodes.proofs.Laws.{length-places}
 use Rattle.instruction.specs.declared.Head.{Head}
-use Rattle.instruction.specs.declared.Head.the-variants.{Refused, End, Comment, Operation}
+use Rattle.instruction.specs.declared.Head.the-variants.{Refused, End, Comment}
 use Rattle.instruction.specs.Encoded.{encoded, claimOf, judgedBy, controlsBy, bitsBy, placesBy, headBy}
 
 encoded-pick : (b : Bool) (x y : Said) → encoded (pick b x y) ≡ pick b (encoded x) (encoded y)

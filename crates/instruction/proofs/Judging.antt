@@ -1,17 +1,17 @@
 -- An instruction by the shape of its opcode, and by the tokens that are shown of it.
 use mathlib.Core.Path.{_≡_, refl, sym, ap, _∙_}
-use mathlib.Core.Bool.{Bool, true, false, not, _&&_, _||_}
+use mathlib.Core.Bool.{Bool, true, false, _&&_}
 use mathlib.Core.List.{List, [], _∷_}
-use Prim.Native.Nat.{ℕ, zero, suc, _+_, _-_, _/_, _%_, _^_, _<_, _≤_}
+use Prim.Native.Nat.{ℕ, _+_, _-_, _/_, _%_, _^_, _<_, _≤_}
 use native.Mathlib.Nat.{mod-lt, add-zero}
 use native.Mathlib.Omega.{arith}
 use lib.Dec.{eqb, leb, leb·zero, lit<}
 use lib.ListN.{length, take, drop, getD, length-take, length-drop}
 use lib.Seq.{drop-drop, getD-drop, take-all, take-take}
 use borrow.Author.Tests.{eq-eqb, ne-eqb, eqb-true, eqb-false, le-leb, lt-leb, leb-true, leb-false}
-use Rattle.paper.specs.Notation.{pick, among, bits, bit}
+use Rattle.paper.specs.Notation.{pick, bits, bit}
 use Rattle.paper.specs.Numbers.{refusal}
-use Rattle.paper.specs.OpcodeTable.{Entry, absent, listed, entryOf, DCL, IFC, BREAKC, SETP, TEX}
+use Rattle.paper.specs.OpcodeTable.{Entry, absent, listed, entryOf, DCL}
 use Rattle.paper.specs.InstructionToken.{opcodeOf, controlsOf, statedSize, commentOpcode, commentLength, commentLaid, endOpcode, endToken, bitsLaid}
 use Rattle.paper.specs.OperandTokens.{typeOf, leftOver}
 use Rattle.paper.specs.Dcl.{declaredAt, usageLaid, refusedAs, onDeclared, declaration}
@@ -26,19 +26,18 @@ use Rattle.paper.specs.declared.Token.{Token}
 use Rattle.paper.specs.declared.Token.the-variants.{Good as good, Bad as bad}
 use Rattle.paper.specs.declared.Operands.{Operands}
 use Rattle.paper.specs.declared.Operands.the-variants.{Refused as unfit}
-use Rattle.paper.specs.declared.Judged.{Judged}
 use Rattle.paper.specs.declared.Judged.the-variants.{Good, Refused as Unfit}
-use Rattle.paper.specs.declared.Reason.the-variants.{Opcode as OPCODE, Bits as BITS, RunOut as RUN-OUT, Size as SIZE, Operand as OPERAND}
+use Rattle.paper.specs.declared.Reason.the-variants.{Opcode as OPCODE, Bits as BITS, Size as SIZE, Operand as OPERAND}
 use Rattle.opcodes.specs.Classes.{classNumber}
 use Rattle.opcodes.specs.Shape.{shapeOf}
-use Rattle.opcodes.proofs.Laws.{shape-absent, shape-rule, shape-class}
+use Rattle.opcodes.proofs.Laws.{shape-absent, shape-class}
 use Rattle.opcodes.proofs.Table.{beyond}
 use Rattle.paper.proofs.Below.{both-left, both-right}
 use Rattle.instruction.specs.declared.Head.{Head}
 use Rattle.instruction.specs.declared.Head.the-variants.{Refused, End, Comment, Declaration, Operation}
-use Rattle.instruction.specs.Encoded.{encoded, claimOf, judgedBy, hasZeros, ruleIn, classIn, controlsBy, bitsBy, placesBy, headBy, operandsBy, listedIn}
+use Rattle.instruction.specs.Encoded.{encoded, claimOf, judgedBy, hasZeros, ruleIn, classIn, controlsBy, bitsBy, placesBy, headBy, listedIn}
 use Rattle.instruction.specs.Numbered.{roomFor, judgedWith, judgedIn, unlistedIn}
-use Rattle.instruction.proofs.Heads.{head-comment, head-end, head-other, claimed, judged-some}
+use Rattle.instruction.proofs.Heads.{head-comment, head-end, head-other, judged-some}
 
 -- where bits 31:28 and the controls are zero, only an odd rule is broken
 zeros-by : (rule x : ℕ) → rule ≡ x % 4 → (none two : Bool) → eqb rule 0 ≡ none → eqb rule 2 ≡ two → controlsBy rule 0 ≡ eqb (x % 2) 0

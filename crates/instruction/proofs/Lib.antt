@@ -1,4 +1,3 @@
 pub mod Numbers
 pub mod Heads
-pub mod Laws
 pub mod Judging

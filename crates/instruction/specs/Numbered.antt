@@ -4,40 +4,24 @@ use mathlib.Core.List.{List}
 use lib.Dec.{eqb, leb}
 use lib.ListN.{length, take}
 use Rattle.paper.specs.Notation.{pick}
-use Rattle.paper.specs.Numbers.{numberOf, refusal}
+use Rattle.paper.specs.Numbers.{refusal}
 use Rattle.paper.specs.InstructionToken.{opcodeOf, commentOpcode, commentLength, commentLaid, endOpcode, endToken}
 use Rattle.paper.specs.Instruction.{head}
 use Rattle.opcodes.specs.Classes.{classNumber}
+use Rattle.operands.specs.Numbered.{refusalNumber}
 use Rattle.paper.specs.declared.Version.{Version}
 use Rattle.paper.specs.declared.Reason.{Reason}
 use Rattle.paper.specs.declared.Reason.the-variants.{Length as LENGTH, Version as VERSION, Opcode as OPCODE, Bits as BITS, RunOut as RUN-OUT, Size as SIZE, Operand as OPERAND, Register as REGISTER, Block as BLOCK, Depth as DEPTH, Tail as TAIL, Place as PLACE, Room as ROOM, Record as RECORD}
-use Rattle.paper.specs.declared.Refusal.{Refusal}
 use Rattle.paper.specs.declared.Single.the-variants.{Comment as A-comment, Plain, Break, Label, Return}
 use Rattle.paper.specs.declared.Opener.the-variants.{If, Loop, Rep}
 use Rattle.paper.specs.declared.Closer.the-variants.{Else, EndIf, EndLoop, EndRep, End as END}
 use Rattle.paper.specs.declared.Class.{Class}
 use Rattle.paper.specs.declared.Class.the-variants.{One, Opens, Closes}
-use Rattle.paper.specs.declared.Taken.{Taken}
-use Rattle.paper.specs.declared.Taken.the-variants.{Took, Refused as not-taken}
-use Rattle.paper.specs.declared.Operands.{Operands}
-use Rattle.paper.specs.declared.Operands.the-variants.{Fit, Refused as unfit}
 use Rattle.paper.specs.declared.Judged.{Judged}
 use Rattle.paper.specs.declared.Judged.the-variants.{Good, Refused}
 use Rattle.instruction.specs.declared.Head.{Head}
 use Rattle.instruction.specs.declared.Head.the-variants.{Refused as broken, End, Comment, Declaration, Operation}
 use Rattle.instruction.specs.Encoded.{encoded, claimOf, judgedBy}
-
--- a refusal's position, and the paper's number of its reason
-abbrev pub refusalNumber : Refusal → ℕ
-refusalNumber r = 32 * (r .position) + (2 * numberOf (r .reason) + 1)
-
-abbrev pub takenNumber : Taken → ℕ
-takenNumber (Took n) = 2 * n
-takenNumber (not-taken r) = refusalNumber r
-
-abbrev pub operandsNumber : Operands → ℕ
-operandsNumber Fit = 0
-operandsNumber (unfit r) = refusalNumber r
 
 -- the tokens that an instruction takes behind its first one, and its class; or its refusal
 abbrev pub judgedNumber : Judged → ℕ

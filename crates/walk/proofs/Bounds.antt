@@ -29,7 +29,7 @@ use Rattle.paper.specs.declared.Class.the-variants.{One}
 use Rattle.paper.specs.declared.Single.the-variants.{Comment}
 use Rattle.paper.specs.declared.Judged.{Judged}
 use Rattle.paper.specs.declared.Judged.the-variants.{Good, Refused}
-use Rattle.instruction.proofs.Laws.{operand-within}
+use Rattle.operands.proofs.Laws.{operand-within}
 
 -- how far a refusal lies from the instruction's first token
 

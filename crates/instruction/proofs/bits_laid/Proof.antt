@@ -1,4 +1,4 @@
-use mathlib.Core.Path.{_≡_, sym, _∙_}
+use mathlib.Core.Path.{sym, _∙_}
 use Rattle.instruction.specs.Encoded.{bitsBy}
 use Rattle.instruction.proofs.Judging.{zeros-laid}
 use borrow.Author.Needs.{needs}

@@ -23,8 +23,8 @@ use Rattle.paper.specs.declared.Taken.the-variants.{Took, Refused}
 use Rattle.paper.specs.declared.Operands.the-variants.{Fit, Refused as Unfit}
 use Rattle.opcodes.specs.Places.{placesIn, decoded}
 use Rattle.tokens.proofs.Laws.{raw-good, not-free-not-relative}
-use Rattle.instruction.specs.Numbered.{takenNumber}
-use Rattle.instruction.proofs.Numbers.{on-token-number, taken-pick}
+use Rattle.operands.specs.Numbered.{takenNumber}
+use Rattle.operands.proofs.Numbers.{on-token-number, taken-pick}
 use Rattle.opcodes.proofs.Laws.{decoded-zero, decoded-step}
 
 pub relative-none : (v : Version) (offset at : ℕ) (behind : List ℕ) → length behind ≤ at →

@@ -1,14 +1,14 @@
-use mathlib.Core.Path.{refl, sym, _∙_}
+use mathlib.Core.Path.{refl}
 use Prim.Native.Nat.{_+_}
 use native.Mathlib.Omega.{arith}
 use lib.ListN.{getD}
-use borrow.Author.Tests.{eq-eqb, ne-eqb}
+use borrow.Author.Tests.{ne-eqb}
 use Rattle.paper.specs.OperandTokens.{relative, tokenAt}
-use Rattle.instruction.proofs.Laws.{relative-none, relative-number}
-use Rattle.instruction.proofs.Numbers.{token-few}
+use Rattle.operands.proofs.Laws.{relative-none, relative-number}
+use Rattle.operands.proofs.Numbers.{token-few}
 use borrow.Author.Needs.{needs}
-use Rattle.instruction.proofs.take_relative.Statement.{statement}
-use Rattle.instruction.proofs.take_relative.Tie as tie
+use Rattle.operands.proofs.take_relative.Statement.{statement}
+use Rattle.operands.proofs.take_relative.Tie as tie
 
 returns : tie.Need-returns
 returns c =

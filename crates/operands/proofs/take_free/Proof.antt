@@ -1,8 +1,8 @@
 use native.Mathlib.Omega.{arith}
 use borrow.Author.Tests.{eq-eqb, ne-eqb}
 use borrow.Author.Needs.{needs}
-use Rattle.instruction.proofs.take_free.Statement.{statement}
-use Rattle.instruction.proofs.take_free.Tie as tie
+use Rattle.operands.proofs.take_free.Statement.{statement}
+use Rattle.operands.proofs.take_free.Tie as tie
 
 refused-at-requires : tie.Need-refused-at-requires
 refused-at-requires c κs = (omega arith, omega arith)

@@ -1,13 +1,13 @@
-use mathlib.Core.Path.{refl, sym, _∙_}
+use mathlib.Core.Path.{refl, sym}
 use Prim.Native.Nat.{_+_}
 use native.Mathlib.Omega.{arith}
 use lib.ListN.{getD}
 use Rattle.paper.specs.OperandTokens.{freeSource, freeDestination, tokenAt}
-use Rattle.instruction.proofs.Laws.{operand-none, free-number, typed-number, raw-number}
-use Rattle.instruction.proofs.Numbers.{token-few}
+use Rattle.operands.proofs.Laws.{operand-none, free-number, typed-number, raw-number}
+use Rattle.operands.proofs.Numbers.{token-few}
 use borrow.Author.Needs.{needs}
-use Rattle.instruction.proofs.take_operand.Statement.{statement}
-use Rattle.instruction.proofs.take_operand.Tie as tie
+use Rattle.operands.proofs.take_operand.Statement.{statement}
+use Rattle.operands.proofs.take_operand.Tie as tie
 
 returns : tie.Need-returns
 returns c =

@@ -1,14 +1,14 @@
 use mathlib.Core.Path.{_≡_, refl, sym, ap, _∙_}
-use Prim.Native.Nat.{_+_, _*_, _/_, _%_, _≤_}
+use Prim.Native.Nat.{_+_, _*_, _%_, _≤_}
 use native.Mathlib.Omega.{arith}
 use lib.ListN.{length, drop}
 use Rattle.paper.specs.Instruction.{operand, operands}
 use Rattle.opcodes.specs.Places.{decoded}
-use Rattle.instruction.specs.Numbered.{operandsNumber}
-use Rattle.instruction.proofs.Laws.{operand-within, operand-few, decoded-few, decoded-less, operands-on, operands-refused, operands-fit, operands-over}
-use Rattle.instruction.proofs.Numbers.{taken-even, taken-odd}
-use Rattle.instruction.proofs.judge_operands.Statement.{statement}
-use Rattle.instruction.proofs.judge_operands.Tie as tie
+use Rattle.operands.specs.Numbered.{operandsNumber}
+use Rattle.operands.proofs.Laws.{operand-within, operand-few, decoded-few, decoded-less, operands-on, operands-refused, operands-fit, operands-over}
+use Rattle.operands.proofs.Numbers.{taken-even, taken-odd}
+use Rattle.operands.proofs.judge_operands.Statement.{statement}
+use Rattle.operands.proofs.judge_operands.Tie as tie
 
 abbrev Inv-loop : tie.InvT-loop
 Inv-loop version places behind left₀ at₀ left at =

@@ -1,7 +1,7 @@
 use borrow.Author.Tests.{eq-eqb, ne-eqb}
 use borrow.Author.Needs.{needs}
-use Rattle.instruction.proofs.take_typed.Statement.{statement}
-use Rattle.instruction.proofs.take_typed.Tie as tie
+use Rattle.operands.proofs.take_typed.Statement.{statement}
+use Rattle.operands.proofs.take_typed.Tie as tie
 
 returns : tie.Need-returns
 returns c = simp (eq-eqb _ _ (c .if1 .taken))

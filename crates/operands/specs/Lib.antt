@@ -1,0 +1,2 @@
+-- What is told of operands, as the code hands it on.
+pub mod Numbered
