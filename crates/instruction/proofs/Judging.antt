@@ -1,18 +1,18 @@
 -- An instruction by the shape of its opcode, and by the tokens that are shown of it.
 use mathlib.Core.Path.{_≡_, refl, sym, ap, _∙_}
-use mathlib.Core.Bool.{Bool, true, false, _&&_}
+use mathlib.Core.Bool.{Bool, true, false}
 use mathlib.Core.List.{List, [], _∷_}
-use Prim.Native.Nat.{ℕ, _+_, _-_, _/_, _%_, _^_, _<_, _≤_}
+use Prim.Native.Nat.{ℕ, _+_, _-_, _<_, _≤_}
 use native.Mathlib.Nat.{mod-lt, add-zero}
 use native.Mathlib.Omega.{arith}
 use lib.Dec.{eqb, leb, leb·zero, lit<}
 use lib.ListN.{length, take, drop, getD, length-take, length-drop}
 use lib.Seq.{drop-drop, getD-drop, take-all, take-take}
-use borrow.Author.Tests.{eq-eqb, ne-eqb, eqb-true, eqb-false, le-leb, lt-leb, leb-true, leb-false}
-use Rattle.paper.specs.Notation.{pick, bits, bit}
+use borrow.Author.Tests.{ne-eqb, eqb-true, eqb-false, le-leb, lt-leb, leb-true, leb-false}
+use Rattle.paper.specs.Notation.{pick}
 use Rattle.paper.specs.Numbers.{refusal}
 use Rattle.paper.specs.OpcodeTable.{Entry, absent, listed, entryOf, DCL}
-use Rattle.paper.specs.InstructionToken.{opcodeOf, controlsOf, statedSize, commentOpcode, commentLength, commentLaid, endOpcode, endToken, bitsLaid}
+use Rattle.paper.specs.InstructionToken.{opcodeOf, statedSize, commentOpcode, commentLength, commentLaid, endOpcode, endToken, bitsLaid}
 use Rattle.paper.specs.OperandTokens.{typeOf, leftOver}
 use Rattle.paper.specs.Dcl.{declaredAt, usageLaid, refusedAs, onDeclared, declaration}
 use Rattle.paper.specs.Blocks.{classOf}
@@ -32,34 +32,13 @@ use Rattle.opcodes.specs.Classes.{classNumber}
 use Rattle.opcodes.specs.Shape.{shapeOf}
 use Rattle.opcodes.proofs.Laws.{shape-absent, shape-class}
 use Rattle.opcodes.proofs.Table.{beyond}
-use Rattle.paper.proofs.Below.{both-left, both-right}
-use Rattle.instruction.specs.declared.Head.{Head}
-use Rattle.instruction.specs.declared.Head.the-variants.{Refused, End, Comment, Declaration, Operation}
-use Rattle.instruction.specs.Encoded.{encoded, claimOf, judgedBy, hasZeros, ruleIn, classIn, controlsBy, bitsBy, placesBy, headBy, listedIn}
+use Rattle.instruction_token.specs.declared.Head.{Head}
+use Rattle.instruction_token.specs.declared.Head.the-variants.{Refused, End, Comment, Declaration, Operation}
+use Rattle.instruction_token.specs.Encoded.{encoded, claimOf, classIn, bitsBy, placesBy, headBy}
+use Rattle.instruction_token.proofs.Heads.{head-comment, head-end, head-other}
+use Rattle.instruction.specs.Claimed.{judgedBy, listedIn}
 use Rattle.instruction.specs.Numbered.{roomFor, judgedWith, judgedIn, unlistedIn}
-use Rattle.instruction.proofs.Heads.{head-comment, head-end, head-other, judged-some}
-
--- where bits 31:28 and the controls are zero, only an odd rule is broken
-zeros-by : (rule x : ℕ) → rule ≡ x % 4 → (none two : Bool) → eqb rule 0 ≡ none → eqb rule 2 ≡ two → controlsBy rule 0 ≡ eqb (x % 2) 0
-zeros-by rule x e true two n t = let zeros = eqb-true rule 0 n in rw (n, eq-eqb (x % 2) 0 (omega arith)) refl
-zeros-by rule x e false true n t = let second = eqb-true rule 2 t in rw (n, t, eq-eqb (x % 2) 0 (omega arith)) refl
-zeros-by rule x e false false n t =
-    let some = eqb-false rule 0 n in
-    let other = eqb-false rule 2 t in
-    rw (n, t, ne-eqb (x % 2) 0 (λ z. omega arith)) refl
-
-and-true : (b : Bool) → b && true ≡ b
-and-true true = refl
-and-true false = refl
-
-pub zeros-laid : (shape token : ℕ) → hasZeros token ≡ true → bitsBy shape token ≡ eqb (shape / 2 ^ 38 % 2) 0
-unfolding bitsBy
-zeros-laid shape token t =
-    let high : token / 2 ^ 28 ≡ 0 = eqb-true (token / 2 ^ 28) 0 (both-left (eqb (token / 2 ^ 28) 0) _ t) in
-    let controls : controlsOf token ≡ 0 = eqb-true (controlsOf token) 0 (both-right (eqb (token / 2 ^ 28) 0) _ t) in
-    let reserved : bits 31 29 token ≡ 0 = omega arith in
-    let unpredicated : bit 28 token ≡ 0 = omega arith in
-    rw (reserved, controls, unpredicated, and-true (controlsBy (ruleIn shape) 0)) (zeros-by (ruleIn shape) (shape / 2 ^ 38) refl (eqb (ruleIn shape) 0) (eqb (ruleIn shape) 2) refl refl)
+use Rattle.instruction.proofs.Claimed.{judged-some}
 
 -- a DCL is refused at one of its three tokens
 near : (o : Operands) (r : Refusal) (p : ℕ) (reason : Reason) → o ≡ refusedAs reason p → p ≤ 2 → o ≡ unfit r → r .position ≤ 2

@@ -1,3 +1,3 @@
 pub mod Numbers
-pub mod Heads
+pub mod Claimed
 pub mod Judging

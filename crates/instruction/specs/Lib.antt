@@ -1,3 +1,3 @@
--- What an instruction's first token says, as the code hands it on.
-pub mod Encoded
+-- What is told of an instruction, as the code hands it on.
+pub mod Claimed
 pub mod Numbered

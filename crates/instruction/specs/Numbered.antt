@@ -19,9 +19,10 @@ use Rattle.paper.specs.declared.Class.{Class}
 use Rattle.paper.specs.declared.Class.the-variants.{One, Opens, Closes}
 use Rattle.paper.specs.declared.Judged.{Judged}
 use Rattle.paper.specs.declared.Judged.the-variants.{Good, Refused}
-use Rattle.instruction.specs.declared.Head.{Head}
-use Rattle.instruction.specs.declared.Head.the-variants.{Refused as broken, End, Comment, Declaration, Operation}
-use Rattle.instruction.specs.Encoded.{encoded, claimOf, judgedBy}
+use Rattle.instruction_token.specs.declared.Head.{Head}
+use Rattle.instruction_token.specs.declared.Head.the-variants.{Refused as broken, End, Comment, Declaration, Operation}
+use Rattle.instruction_token.specs.Encoded.{encoded, claimOf}
+use Rattle.instruction.specs.Claimed.{judgedBy}
 
 -- the tokens that an instruction takes behind its first one, and its class; or its refusal
 abbrev pub judgedNumber : Judged → ℕ

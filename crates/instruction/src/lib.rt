@@ -1,16 +1,13 @@
 // One instruction, judged on its own tokens: document 01, "The numbers given back", the order within one instruction.
 ghost use mathlib.Core.Path.{_≡_};
-ghost use Prim.Native.Nat.{_+_, _*_, _<_};
-ghost use lib.Dec.{eqb};
-ghost use lib.ListN.{length};
-ghost use Rattle.paper.specs.Notation.{pick};
-ghost use Rattle.paper.specs.InstructionToken.{opcodeOf, commentLaid, commentLength, endToken};
+ghost use Rattle.paper.specs.InstructionToken.{opcodeOf};
 ghost use Rattle.paper.specs.Blocks.{classOf};
 ghost use Rattle.paper.specs.Dcl.{declaration};
-ghost use Rattle.paper.specs.Instruction.{head, operands, judged};
+ghost use Rattle.paper.specs.Instruction.{judged};
 ghost use Rattle.opcodes.specs.Classes.{classNumber};
+ghost use Rattle.instruction_token.specs.Encoded.{classIn};
 ghost use Rattle.operands.specs.Numbered.{operandsNumber};
-ghost use Rattle.instruction.specs.Encoded.{encoded, claimOf, classIn, hasZeros, controlsBy, bitsBy, placesBy, headBy, operandsBy, listedIn};
+ghost use Rattle.instruction.specs.Claimed.{operandsBy, listedIn};
 ghost use Rattle.instruction.specs.Numbered.{classBy, reasonBy, judgedNumber, judgedFrom, judgedIn, unlistedIn};
 use paper::Class;
 use paper::Closer;
@@ -22,9 +19,6 @@ use paper::Refusal;
 use paper::Single;
 use paper::Version;
 
-// The predicate's place, of specs/OperandTokens.antt.
-const PREDICATE: u64 = 93;
-
 // What is told of an instruction is one number, of specs/Numbered.antt: a yes is even, a refusal odd. These are refusals at position 0.
 const OPCODE: u64 = 2 * 3 + 1;
 
@@ -34,121 +28,6 @@ const RUN_OUT: u64 = 2 * 5 + 1;
 
 // The class of END, as a yes of no tokens has it.
 const ENDED: u64 = 2 * 12;
-
-// What an instruction's first token says by itself: a refusal, END, a comment and its length, a DCL and its stated size,
-// another instruction's places, a digit of base 128 for each, and its stated size.
-pub enum Head {
-    Refused(Reason),
-    End,
-    Comment(usize),
-    Declaration(usize),
-    Operation(u64, usize),
-}
-
-// The controls by their rule, of opcodes' specs/Shape.antt.
-fn controls_laid(rule: u64, controls: u32) -> bool
-    ensures { λ r. ⌜ r ≡ controlsBy rule controls ⌝ }
-{
-    if rule == 0 {
-        return controls == 0;
-    }
-    if rule == 2 {
-        return controls <= 2;
-    }
-    (1 <= controls) & (controls <= 6)
-}
-
-// Neither a reserved bit, nor a predicate, nor controls.
-fn has_zeros(token: u32) -> bool
-    ensures { λ r. ⌜ r ≡ hasZeros token ⌝ }
-{
-    (token / 0x1000_0000 == 0) & (token / 0x1_0000 % 0x100 == 0)
-}
-
-// Bits 31 to 16 of an instruction token, by the shape of its opcode. Most have zeros there, which only a comparison may not.
-fn bits_laid(shape: u64, token: u32) -> bool
-    ensures { λ r. ⌜ r ≡ bitsBy shape token ⌝ }
-{
-    if has_zeros(token) {
-        return shape / 0x40_0000_0000 % 2 == 0;
-    }
-    let controls = controls_laid(shape / 0x40_0000_0000 % 4, token / 0x1_0000 % 0x100);
-    (token / 0x2000_0000 % 8 == 0)
-        & (controls & ((token / 0x1000_0000 % 2 == 0) | (shape / 0x8_0000_0000 % 8 != 0)))
-}
-
-// The places of the operands, and the predicate's behind them.
-fn places_of(shape: u64, token: u32) -> u64
-    ensures { λ r. ⌜ r ≡ placesBy shape token ⌝ }
-{
-    let places = shape % 0x8_0000_0000;
-    if token / 0x1000_0000 % 2 == 1 {
-        return places + (PREDICATE << (7 * (shape / 0x8_0000_0000 % 8)));
-    }
-    places
-}
-
-fn comment_head(token: u32) -> Head
-    ensures { λ r. ⌜ r ≡ pick (commentLaid token) (Head.Comment (commentLength token)) (Head.Refused Reason.Bits) ⌝ }
-{
-    if token / 0x8000_0000 % 2 == 0 {
-        return Head::Comment((token / 0x1_0000 % 0x8000) as usize);
-    }
-    Head::Refused(Reason::Bits)
-}
-
-fn end_head(token: u32) -> Head
-    ensures { λ r. ⌜ r ≡ pick (eqb token endToken) Head.End (Head.Refused Reason.Bits) ⌝ }
-{
-    if token == 0xFFFF {
-        return Head::End;
-    }
-    Head::Refused(Reason::Bits)
-}
-
-// The head of an instruction whose opcode has this shape.
-fn shape_head(shape: u64, token: u32) -> Head
-    ensures { λ r. ⌜ r ≡ headBy shape token ⌝ }
-{
-    if shape == 0 {
-        return Head::Refused(Reason::Opcode);
-    }
-    if bits_laid(shape, token) {
-        let size = (token / 0x100_0000 % 16) as usize;
-        if token % 0x1_0000 == 31 {
-            return Head::Declaration(size);
-        }
-        return Head::Operation(places_of(shape, token), size);
-    }
-    Head::Refused(Reason::Bits)
-}
-
-// What an instruction's first token says by itself.
-pub fn read_head(version: Version, token: u32) -> Head
-    ensures { λ r. ⌜ r ≡ encoded (head version token) ⌝ }
-{
-    let opcode = token % 0x1_0000;
-    if opcode == 0xFFFE {
-        return comment_head(token);
-    }
-    if opcode == 0xFFFF {
-        return end_head(token);
-    }
-    shape_head(opcodes::shape_of(version, opcode), token)
-}
-
-// How many tokens an instruction claims behind its first one. Nothing but a comment claims more than fifteen.
-pub fn claim_of(head: Head) -> usize
-    ensures { λ r. ⌜ r ≡ claimOf head ⌝ }
-{
-    match head {
-        Head::Refused(_) => 0,
-        Head::End => 0,
-        Head::Comment(length) => length,
-        Head::Declaration(size) => size,
-        Head::Operation(_, size) => size,
-    }
-}
 
 // The two tokens of a DCL, and no token more.
 fn judge_declared(version: Version, behind: &[u32]) -> u64
@@ -171,7 +50,7 @@ fn judge_claimed(version: Version, shape: u64, first: u32, behind: &[u32]) -> u6
     if first % 0x1_0000 == 31 {
         return judge_declared(version, behind);
     }
-    operands::judge_operands(version, places_of(shape, first), behind)
+    operands::judge_operands(version, instruction_token::places_of(shape, first), behind)
 }
 
 // An instruction whose opcode has this shape, where the bits of its first token are as they must be.
@@ -223,7 +102,7 @@ pub fn judge_first(version: Version, first: u32, behind: &[u32], left: usize) ->
     if shape == 0 {
         return judge_unlisted(first, left);
     }
-    if bits_laid(shape, first) {
+    if instruction_token::bits_laid(shape, first) {
         return judge_listed(version, shape, first, &behind[0..]);
     }
     BITS

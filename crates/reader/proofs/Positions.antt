@@ -20,9 +20,9 @@ use Rattle.paper.specs.declared.Operands.{Operands}
 use Rattle.paper.specs.declared.Operands.the-variants.{Fit, Refused as Unfit}
 use Rattle.paper.specs.declared.Class.{Class}
 use Rattle.paper.specs.declared.Judged.the-variants.{Refused as Unlawful}
-use Rattle.instruction.specs.declared.Head.{Head}
-use Rattle.instruction.specs.declared.Head.the-variants.{Refused as Broken, End, Comment, Declaration, Operation}
-use Rattle.instruction.specs.Encoded.{judgedBy}
+use Rattle.instruction_token.specs.declared.Head.{Head}
+use Rattle.instruction_token.specs.declared.Head.the-variants.{Refused as Broken, End, Comment, Declaration, Operation}
+use Rattle.instruction.specs.Claimed.{judgedBy}
 use Rattle.opcodes.specs.Places.{decoded}
 use Rattle.operands.proofs.Laws.{operand-within}
 

@@ -17,10 +17,11 @@ use Rattle.paper.specs.declared.Refusal.{Refusal}
 use Rattle.paper.specs.declared.Class.{Class}
 use Rattle.paper.specs.declared.Judged.{Judged}
 use Rattle.paper.specs.declared.Judged.the-variants.{Good as Lawful, Refused as Unlawful}
-use Rattle.instruction.specs.declared.Head.{Head}
-use Rattle.instruction.specs.Encoded.{encoded, claimOf, judgedBy}
+use Rattle.instruction_token.specs.declared.Head.{Head}
+use Rattle.instruction_token.specs.Encoded.{encoded, claimOf}
+use Rattle.instruction.specs.Claimed.{judgedBy}
 use Rattle.instruction.specs.Numbered.{judgedNumber, judgedFrom, judgedIn}
-use Rattle.instruction.proofs.Heads.{judged-some}
+use Rattle.instruction.proofs.Claimed.{judged-some}
 use Rattle.instruction.proofs.Numbers.{judged-back}
 use Rattle.instruction.proofs.Judging.{judged-claimed}
 use Rattle.records.specs.Record.{recordOf}

@@ -40,8 +40,8 @@ fn read_at(version: Version, tokens: &[u32], at: usize) -> Reading
         return refused_at(Reason::RunOut, tokens.len());
     }
     let first = tokens[at];
-    let head = instruction::read_head(version, first);
-    let claim = instruction::claim_of(head);
+    let head = instruction_token::read_head(version, first);
+    let claim = instruction_token::claim_of(head);
     let from = at + 1;
     if tokens.len() - from < claim {
         return refused_at(Reason::RunOut, at);

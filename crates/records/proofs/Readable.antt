@@ -12,8 +12,9 @@ use Rattle.paper.specs.declared.Class.{Class}
 use Rattle.paper.specs.declared.Judged.the-variants.{Good as Lawful}
 use Rattle.opcodes.specs.Places.{decoded}
 use Rattle.opcodes.specs.Shape.{digits}
-use Rattle.instruction.specs.Encoded.{encoded, claimOf, judgedBy}
-use Rattle.instruction.proofs.Heads.{head-decoded}
+use Rattle.instruction_token.specs.Encoded.{encoded, claimOf}
+use Rattle.instruction_token.proofs.Heads.{head-decoded}
+use Rattle.instruction.specs.Claimed.{judgedBy}
 use Rattle.records.specs.Record.{recordOn, recordOf}
 use Rattle.records.specs.Encoded.{placesOf, recordBy, widthOf, ordered, Readable}
 use Rattle.records.proofs.Heads.{operation-few}

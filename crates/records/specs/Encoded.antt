@@ -7,8 +7,8 @@ use Rattle.paper.specs.Notation.{pick}
 use Rattle.paper.specs.InstructionToken.{commentLength}
 use Rattle.paper.specs.OperandTokens.{predicate}
 use Rattle.opcodes.specs.Places.{decoded}
-use Rattle.instruction.specs.declared.Head.{Head}
-use Rattle.instruction.specs.declared.Head.the-variants.{Refused, End, Comment, Declaration, Operation}
+use Rattle.instruction_token.specs.declared.Head.{Head}
+use Rattle.instruction_token.specs.declared.Head.the-variants.{Refused, End, Comment, Declaration, Operation}
 use Rattle.records.specs.declared.Record.{Record}
 use Rattle.records.specs.Record.{widthAt, arrayOf, declaredPlaces, noRecord, endRecord, commentRecord, instructionRecord}
 

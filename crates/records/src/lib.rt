@@ -8,7 +8,7 @@ ghost use Rattle.paper.specs.OperandTokens.{predicate};
 ghost use Rattle.opcodes.specs.Places.{decoded};
 ghost use Rattle.records.specs.Record.{rawOperand, destinationOperand, sourceOperand, operandOf, widthAt, operandAt, arrayOf, emptyRecord, noRecord, instructionRecord};
 ghost use Rattle.records.specs.Encoded.{placesOf, recordBy, Readable};
-use instruction::Head;
+use instruction_token::Head;
 
 // Places of OperandTokens.antt, by their numbers there.
 const RAW: u64 = 1;

@@ -21,7 +21,7 @@ use Rattle.paper.specs.declared.Reason.the-variants.{RunOut as RUN-OUT}
 use Rattle.instruction.specs.Numbered.{judgedNumber, judgedFrom, judgedIn}
 use Rattle.instruction.proofs.Numbers.{judged-back}
 use Rattle.instruction.proofs.Judging.{judged-shown}
-use Rattle.instruction.proofs.Heads.{judged-none}
+use Rattle.instruction.proofs.Claimed.{judged-none}
 use Rattle.walk.specs.declared.State.{State}
 use Rattle.walk.specs.declared.Stepped.{Stepped}
 use Rattle.walk.specs.declared.Stepped.the-variants.{On, Refused}

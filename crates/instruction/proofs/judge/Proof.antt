@@ -8,7 +8,7 @@ use Rattle.paper.specs.declared.Judged.the-variants.{Refused}
 use Rattle.paper.specs.declared.Reason.the-variants.{RunOut as RUN-OUT}
 use Rattle.instruction.specs.Numbered.{judgedFrom, judgedIn}
 use Rattle.instruction.proofs.Numbers.{judged-back}
-use Rattle.instruction.proofs.Heads.{judged-none}
+use Rattle.instruction.proofs.Claimed.{judged-none}
 use Rattle.instruction.proofs.Judging.{judged-whole}
 use borrow.Author.Needs.{needs}
 use Rattle.instruction.proofs.judge.Statement.{statement}

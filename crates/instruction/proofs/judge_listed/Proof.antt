@@ -4,7 +4,7 @@ use lib.Seq.{length-take-le}
 use borrow.Author.Tests.{lt-leb, le-leb}
 use Rattle.paper.specs.InstructionToken.{opcodeOf, statedSize}
 use Rattle.paper.specs.Blocks.{classOf}
-use Rattle.instruction.specs.Encoded.{operandsBy}
+use Rattle.instruction.specs.Claimed.{operandsBy}
 use Rattle.instruction.proofs.Numbers.{operands-number, operands-refused-number}
 use borrow.Author.Needs.{needs}
 use Rattle.instruction.proofs.judge_listed.Statement.{statement}

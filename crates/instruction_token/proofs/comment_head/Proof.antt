@@ -1,7 +1,7 @@
 use borrow.Author.Tests.{eq-eqb, ne-eqb}
 use borrow.Author.Needs.{needs}
-use Rattle.instruction.proofs.comment_head.Statement.{statement}
-use Rattle.instruction.proofs.comment_head.Tie as tie
+use Rattle.instruction_token.proofs.comment_head.Statement.{statement}
+use Rattle.instruction_token.proofs.comment_head.Tie as tie
 
 cast-t7 : tie.Need-cast-t7
 cast-t7 c = search needs

@@ -2,31 +2,26 @@
 use mathlib.Core.Path.{_≡_, refl, sym}
 use mathlib.Core.Bool.{Bool, true, false, not, _&&_, _||_}
 use mathlib.Core.List.{List, [], _∷_}
-use Prim.Native.Nat.{ℕ, suc, _*_, _%_, _^_, _<_, _≤_}
+use Prim.Native.Nat.{ℕ, suc, _*_, _/_, _%_, _^_, _<_, _≤_}
 use native.Mathlib.Nat.{mod-eq-of-lt, pow-le-pow-right}
 use native.Mathlib.Omega.{arith}
-use lib.Dec.{eqb, leb, lit<, leb·zero}
-use lib.ListN.{length, take, drop, getD}
-use borrow.Author.Tests.{ne-eqb, eqb-true}
+use lib.Dec.{eqb, leb, lit<}
+use lib.ListN.{length}
+use borrow.Author.Tests.{eq-eqb, ne-eqb, eqb-true, eqb-false}
 use Rattle.paper.specs.Notation.{pick, among, bits, bit}
 use Rattle.paper.specs.OpcodeTable.{Letter, Entry, absent, listed, entryOf, DCL, DEF, DEFI, DEFB, IFC, BREAKC, SETP, TEX}
 use Rattle.paper.specs.Versions.{isThird}
 use Rattle.paper.specs.InstructionToken.{opcodeOf, controlsOf, statedSize, isPredicated, commentOpcode, commentLength, commentLaid, endOpcode, endToken, hasDestination, mayBePredicated, controlsLaid, bitsLaid}
 use Rattle.paper.specs.OperandTokens.{predicate, placesFrom}
-use Rattle.paper.specs.Instruction.{Head as Said, broken, end, comment, dcl, operation, places, headOf, head, onHead, judged}
-use Rattle.paper.specs.Numbers.{refusal}
-use Rattle.paper.specs.Blocks.{classOf}
+use Rattle.paper.specs.Instruction.{Head as Said, broken, end, comment, dcl, operation, places, headOf, head}
 use Rattle.paper.specs.declared.Version.{Version}
 use Rattle.opcodes.specs.Places.{decoded}
 use Rattle.opcodes.specs.Shape.{digits, shapeOf}
-use Rattle.opcodes.proofs.Laws.{shape-absent, shape-zero, shape-places, shape-step, shape-rule, decoded-digits, decoded-predicated, without-predicate, digits-predicated}
-use Rattle.paper.specs.declared.Judged.{Judged}
-use Rattle.paper.specs.declared.Judged.the-variants.{Refused as Unfit}
-use Rattle.paper.specs.declared.Reason.the-variants.{Bits as BITS, RunOut as RUN-OUT}
-use Rattle.opcodes.proofs.Laws.{length-places}
-use Rattle.instruction.specs.declared.Head.{Head}
-use Rattle.instruction.specs.declared.Head.the-variants.{Refused, End, Comment}
-use Rattle.instruction.specs.Encoded.{encoded, claimOf, judgedBy, controlsBy, bitsBy, placesBy, headBy}
+use Rattle.opcodes.proofs.Laws.{shape-absent, shape-zero, shape-places, shape-step, shape-rule, decoded-digits, decoded-predicated, without-predicate, digits-predicated, length-places}
+use Rattle.paper.specs.declared.Reason.the-variants.{Bits as BITS}
+use Rattle.paper.proofs.Below.{both-left, both-right}
+use Rattle.instruction_token.specs.declared.Head.the-variants.{Refused, End, Comment}
+use Rattle.instruction_token.specs.Encoded.{encoded, hasZeros, ruleIn, controlsBy, bitsBy, placesBy, headBy}
 
 encoded-pick : (b : Bool) (x y : Said) → encoded (pick b x y) ≡ pick b (encoded x) (encoded y)
 encoded-pick true x y = refl
@@ -179,26 +174,24 @@ module _ (v : Version) (token : ℕ) (ps : List ℕ) (size : ℕ) where
   unfolding head
   head-decoded h = head-cases (eqb (opcodeOf token) commentOpcode) (commentLaid token) (eqb (opcodeOf token) endOpcode) (eqb token endToken) h
 
--- an instruction by its head: RUN-OUT where it claims more than there is
-abbrev pub claimed : Version → Head → ℕ → List ℕ → Judged
-claimed v h first rest =
-    pick (leb (claimOf h) (length rest)) (judgedBy v h first (take (claimOf h) rest)) (Unfit (refusal RUN-OUT 0))
+-- where bits 31:28 and the controls are zero, only an odd rule is broken
+zeros-by : (rule x : ℕ) → rule ≡ x % 4 → (none two : Bool) → eqb rule 0 ≡ none → eqb rule 2 ≡ two → controlsBy rule 0 ≡ eqb (x % 2) 0
+zeros-by rule x e true two n t = let zeros = eqb-true rule 0 n in rw (n, eq-eqb (x % 2) 0 (omega arith)) refl
+zeros-by rule x e false true n t = let second = eqb-true rule 2 t in rw (n, t, eq-eqb (x % 2) 0 (omega arith)) refl
+zeros-by rule x e false false n t =
+    let some = eqb-false rule 0 n in
+    let other = eqb-false rule 2 t in
+    rw (n, t, ne-eqb (x % 2) 0 (λ z. omega arith)) refl
 
-by-head : (v : Version) (first : ℕ) (rest : List ℕ) (h : Said) → head v first ≡ h →
-    onHead v h (classOf (opcodeOf first)) rest ≡ claimed v (encoded h) first rest
-by-head v first rest (broken reason) e = rw (leb·zero (length rest))
-by-head v first rest end e = rw (leb·zero (length rest))
-by-head v first rest (comment n) e = refl
-by-head v first rest (dcl size) e = refl
-by-head v first rest (operation ps size) e = rw (head-decoded v first ps size e)
+and-true : (b : Bool) → b && true ≡ b
+and-true true = refl
+and-true false = refl
 
-pub judged-none : (v : Version) (tokens : List ℕ) → length tokens ≡ 0 → judged v tokens ≡ Unfit (refusal RUN-OUT 0)
-unfolding judged
-judged-none v [] h = refl
-judged-none v (first ∷ rest) h = absurd (omega arith)
-
-pub judged-some : (v : Version) (tokens : List ℕ) → (length tokens ≡ 0 → ⊥) →
-    judged v tokens ≡ claimed v (encoded (head v (getD tokens 0 0))) (getD tokens 0 0) (drop 1 tokens)
-unfolding judged
-judged-some v [] h = absurd (h refl)
-judged-some v (first ∷ rest) h = by-head v first rest (head v first) refl
+pub zeros-laid : (shape token : ℕ) → hasZeros token ≡ true → bitsBy shape token ≡ eqb (shape / 2 ^ 38 % 2) 0
+unfolding bitsBy
+zeros-laid shape token t =
+    let high : token / 2 ^ 28 ≡ 0 = eqb-true (token / 2 ^ 28) 0 (both-left (eqb (token / 2 ^ 28) 0) _ t) in
+    let controls : controlsOf token ≡ 0 = eqb-true (controlsOf token) 0 (both-right (eqb (token / 2 ^ 28) 0) _ t) in
+    let reserved : bits 31 29 token ≡ 0 = omega arith in
+    let unpredicated : bit 28 token ≡ 0 = omega arith in
+    rw (reserved, controls, unpredicated, and-true (controlsBy (ruleIn shape) 0)) (zeros-by (ruleIn shape) (shape / 2 ^ 38) refl (eqb (ruleIn shape) 0) (eqb (ruleIn shape) 2) refl refl)

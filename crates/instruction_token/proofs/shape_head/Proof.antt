@@ -1,9 +1,9 @@
 use mathlib.Core.Path.{sym, _∙_}
 use borrow.Author.Tests.{eq-eqb, ne-eqb}
-use Rattle.instruction.specs.Encoded.{headBy}
+use Rattle.instruction_token.specs.Encoded.{headBy}
 use borrow.Author.Needs.{needs}
-use Rattle.instruction.proofs.shape_head.Statement.{statement}
-use Rattle.instruction.proofs.shape_head.Tie as tie
+use Rattle.instruction_token.proofs.shape_head.Statement.{statement}
+use Rattle.instruction_token.proofs.shape_head.Tie as tie
 
 returns : tie.Need-returns
 unfolding headBy

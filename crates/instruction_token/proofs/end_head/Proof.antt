@@ -1,6 +1,6 @@
 use borrow.Author.Tests.{eq-eqb, ne-eqb}
-use Rattle.instruction.proofs.end_head.Statement.{statement}
-use Rattle.instruction.proofs.end_head.Tie as tie
+use Rattle.instruction_token.proofs.end_head.Statement.{statement}
+use Rattle.instruction_token.proofs.end_head.Tie as tie
 
 returns : tie.Need-returns
 returns c = simp (eq-eqb _ _ (c .if1 .taken))

@@ -1,8 +1,8 @@
 use mathlib.Core.Path.{sym, _∙_}
-use Rattle.instruction.proofs.Heads.{head-comment, head-end, head-other}
+use Rattle.instruction_token.proofs.Heads.{head-comment, head-end, head-other}
 use borrow.Author.Needs.{needs}
-use Rattle.instruction.proofs.read_head.Statement.{statement}
-use Rattle.instruction.proofs.read_head.Tie as tie
+use Rattle.instruction_token.proofs.read_head.Statement.{statement}
+use Rattle.instruction_token.proofs.read_head.Tie as tie
 
 comment-head-requires : tie.Need-comment-head-requires
 comment-head-requires c κs = search needs

@@ -1,9 +1,9 @@
 use mathlib.Core.Path.{sym, _∙_}
-use Rattle.instruction.specs.Encoded.{bitsBy}
-use Rattle.instruction.proofs.Judging.{zeros-laid}
+use Rattle.instruction_token.specs.Encoded.{bitsBy}
+use Rattle.instruction_token.proofs.Heads.{zeros-laid}
 use borrow.Author.Needs.{needs}
-use Rattle.instruction.proofs.bits_laid.Statement.{statement}
-use Rattle.instruction.proofs.bits_laid.Tie as tie
+use Rattle.instruction_token.proofs.bits_laid.Statement.{statement}
+use Rattle.instruction_token.proofs.bits_laid.Tie as tie
 
 has-zeros-requires : tie.Need-has-zeros-requires
 has-zeros-requires c κs = search needs

@@ -1,0 +1,2 @@
+-- What an instruction's first token says, as the code hands it on.
+pub mod Encoded
