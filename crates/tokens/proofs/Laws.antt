@@ -12,9 +12,7 @@ use Rattle.paper.specs.OperandTokens.{raw, freeSource, freeDestination, modifie
 use Rattle.paper.specs.Numbers.{toldToken}
 use Rattle.paper.specs.declared.Version.{Version}
 use Rattle.paper.specs.declared.Version.the-variants.{V2, V3, P2, P3}
-use Rattle.paper.specs.declared.Reason.the-variants.{Length, Version as VERSION, Opcode, Bits, RunOut, Size, Operand, Register, Block, Depth, Tail, Place, Room, Record}
-use Rattle.paper.specs.declared.Token.{Token}
-use Rattle.paper.specs.declared.Token.the-variants.{Good, Bad}
+use Rattle.paper.specs.declared.Token.the-variants.{Good}
 use Rattle.paper.proofs.Below.{both-left, both-right, below, below-at}
 use Rattle.tokens.specs.Plain.{plainSource, plainDestination}
 
@@ -161,23 +159,6 @@ relative-type v k h = same-true (holds (relativeTypes v) k) (isRelative v k) (be
 -- "Bit 13 may be one only at places called free"
 pub typed-not-relative : (v : Version) (place : ℕ) → (place ≡ freeSource → ⊥) → (place ≡ freeDestination → ⊥) → mayBeRelative v place ≡ false
 typed-not-relative v place s d = rw (ne-eqb place freeSource s, ne-eqb place freeDestination d)
-
-pub told-good : (t : Token) → toldToken t ≡ 0 → t ≡ Good
-told-good Good e = refl
-told-good (Bad Length) e = absurd (omega arith)
-told-good (Bad VERSION) e = absurd (omega arith)
-told-good (Bad Opcode) e = absurd (omega arith)
-told-good (Bad Bits) e = absurd (omega arith)
-told-good (Bad RunOut) e = absurd (omega arith)
-told-good (Bad Size) e = absurd (omega arith)
-told-good (Bad Operand) e = absurd (omega arith)
-told-good (Bad Register) e = absurd (omega arith)
-told-good (Bad Block) e = absurd (omega arith)
-told-good (Bad Depth) e = absurd (omega arith)
-told-good (Bad Tail) e = absurd (omega arith)
-told-good (Bad Place) e = absurd (omega arith)
-told-good (Bad Room) e = absurd (omega arith)
-told-good (Bad Record) e = absurd (omega arith)
 
 told-laid : (l t : Bool) → toldToken (layoutThenType l t) ≡ 0 → l ≡ true
 told-laid true t e = refl
