@@ -138,7 +138,7 @@ pub fn check_bytes(bytes: &[u8]) -> Verdict
     if MOST_TOKENS < tokens {
         return refused(Reason::Length, 0);
     }
-    let named = tokens::version_of(token_at(bytes, 0));
+    let named = versions::version_of(token_at(bytes, 0));
     match named {
         Named::Known(version) => walk_bytes(version, bytes, tokens),
         Named::Unknown => refused(Reason::Version, 0),

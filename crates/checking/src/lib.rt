@@ -286,7 +286,7 @@ pub fn check(tokens: &[u32]) -> Verdict
     ensures { λ r. ⌜ told r ≡ checked (now (tokens .entry)) ⌝ }
 {
     if (FEWEST_TOKENS <= tokens.len()) & (tokens.len() <= MOST_TOKENS) {
-        let named = tokens::version_of(tokens[0]);
+        let named = versions::version_of(tokens[0]);
         return match named {
             Named::Known(version) => check_behind(version, tokens),
             Named::Unknown => refused(Reason::Version, 0),

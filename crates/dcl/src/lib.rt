@@ -105,9 +105,9 @@ fn form_by(sampler: bool, plain: bool, pixel: bool, usage: u32) -> bool
 fn form_laid(version: Version, destination: u32, usage: u32) -> bool
     ensures { λ r. ⌜ r ≡ formLaid version (typeOf destination) usage ⌝ }
 {
-    let sampler = tokens::type_in(sampler_types(version), destination);
-    let plain = tokens::type_in(plain_types(version), destination);
-    form_by(sampler, plain, tokens::is_pixel(version), usage)
+    let sampler = versions::type_in(sampler_types(version), destination);
+    let plain = versions::type_in(plain_types(version), destination);
+    form_by(sampler, plain, versions::is_pixel(version), usage)
 }
 
 fn usage_laid(version: Version, destination: u32, usage: u32) -> bool
@@ -128,7 +128,7 @@ fn position_or_face(destination: u32) -> bool
 fn face_laid(version: Version, destination: u32) -> bool
     ensures { λ r. ⌜ r ≡ faceLaid version destination ⌝ }
 {
-    let kind = tokens::type_of(destination);
+    let kind = versions::type_of(destination);
     let face = position_or_face(destination);
     match version {
         Version::V2 => true,
@@ -141,19 +141,19 @@ fn face_laid(version: Version, destination: u32) -> bool
 fn is_declared(version: Version, destination: u32) -> bool
     ensures { λ r. ⌜ r ≡ isDeclared version (typeOf destination) ⌝ }
 {
-    let sampler = tokens::type_in(sampler_types(version), destination);
-    let plain = tokens::type_in(plain_types(version), destination);
-    let used = tokens::type_in(usage_types(version), destination);
+    let sampler = versions::type_in(sampler_types(version), destination);
+    let plain = versions::type_in(plain_types(version), destination);
+    let used = versions::type_in(usage_types(version), destination);
     sampler | (plain | used)
 }
 
 fn declared_at(version: Version, destination: u32) -> Token
     ensures { λ r. ⌜ r ≡ declaredAt version destination ⌝ }
 {
-    let laid = tokens::destination_laid(version, DECLARED, destination);
+    let laid = layout::destination_laid(version, DECLARED, destination);
     let face = face_laid(version, destination);
     let declared = is_declared(version, destination);
-    tokens::layout_then_type(laid & face, declared)
+    layout::layout_then_type(laid & face, declared)
 }
 
 fn refused(reason: Reason, position: usize) -> Operands

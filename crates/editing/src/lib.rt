@@ -231,7 +231,7 @@ fn edit_stream(old: &[u32], room: usize, i: usize, j: usize, run: &[u32]) -> Edi
     if MOST_TOKENS < old.len() {
         return refused(Reason::Length, 0);
     }
-    let named = tokens::version_of(old[0]);
+    let named = versions::version_of(old[0]);
     match named {
         Named::Known(version) => edit_known(version, old, room, i, j, run),
         Named::Unknown => refused(Reason::Version, 0),

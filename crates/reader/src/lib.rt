@@ -72,7 +72,7 @@ pub fn read(version: u32, tokens: &[u32], at: usize) -> Reading
     if MOST_TOKENS < tokens.len() {
         return refused_at(Reason::Length, 0);
     }
-    let named = tokens::version_of(version);
+    let named = versions::version_of(version);
     match named {
         Named::Known(known) => read_at(known, tokens, at),
         Named::Unknown => refused_at(Reason::Version, 0),

@@ -1,19 +1,18 @@
 -- Laws of one token at its place.
-use mathlib.Core.Path.{_≡_, refl, sym}
-use mathlib.Core.Bool.{Bool, true, false, not, _&&_, _||_}
+use mathlib.Core.Path.{_≡_, refl}
+use mathlib.Core.Bool.{Bool, true, false, _||_}
 use Prim.Native.Nat.{ℕ, zero, suc, _*_, _%_, _^_, _<_, _≤_}
 use native.Mathlib.Nat.{one-mul, mod-eq-of-lt, pow-le-pow-right}
 use native.Mathlib.Omega.{arith}
 use lib.Dec.{eqb, leb, lit<}
 use borrow.Author.Tests.{eqb-true, leb-true, ne-eqb}
 use Rattle.paper.specs.Notation.{bits, bit, pick, holds}
-use Rattle.paper.specs.Versions.{isPixel, isThird}
-use Rattle.paper.specs.OperandTokens.{raw, freeSource, freeDestination, modifierOf, plainModifiers, bothLaid, mayBeRelative, relativeLaid, modifierLaid, destinationLaid, sourceLaid, isDestination, laid, conditionTypes, relativeTypes, typesAt, typeOf, layoutThenType, tokenAt, bringsRelative}
+use Rattle.paper.specs.Versions.{isPixel}
+use Rattle.paper.specs.OperandTokens.{raw, freeSource, freeDestination, modifierOf, plainModifiers, bothLaid, mayBeRelative, modifierLaid, destinationLaid, sourceLaid, isDestination, laid, typesAt, typeOf, layoutThenType, tokenAt, bringsRelative}
 use Rattle.paper.specs.Numbers.{toldToken}
 use Rattle.paper.specs.declared.Version.{Version}
-use Rattle.paper.specs.declared.Version.the-variants.{V2, V3, P2, P3}
 use Rattle.paper.specs.declared.Token.the-variants.{Good}
-use Rattle.paper.proofs.Below.{both-left, both-right, below, below-at}
+use Rattle.paper.proofs.Below.{both-left, both-right}
 use Rattle.tokens.specs.Plain.{plainSource, plainDestination}
 
 -- at any place but a raw one: layout, then type
@@ -32,10 +31,6 @@ one-bit k h =
     let below : 2 ^ k ≤ 2 ^ 31 = pow-le-pow-right {n = 2} (lit< tt) {i = k} {j = 31} (omega arith) in
     let fits : 2 ^ k < 4294967296 = omega arith in
     rw one-mul (mod-eq-of-lt fits)
-
-pub pick-same : {A : Type 0} (b : Bool) (a : A) → pick b a a ≡ a
-pick-same true a = refl
-pick-same false a = refl
 
 unnegated : (modifier : ℕ) → modifier ≤ 1 → holds plainModifiers modifier ≡ true
 unfolding holds
@@ -70,91 +65,6 @@ plain-destination-laid v token t₀ =
       both-left (eqb (bits 27 24 token) 0) _ t₄,
       both-right (eqb (bits 27 24 token) 0) _ t₄,
     )
-
--- the same tests in another order
-both-order : (a b c d e : Bool) → a && (b && (c && (d && e))) ≡ (a && (c && d)) && (b && e)
-both-order false b c d e = refl
-both-order true true true d e = refl
-both-order true true false d e = refl
-both-order true false true true e = refl
-both-order true false true false e = refl
-both-order true false false d e = refl
-
-pub destination-order : (v : Version) (place token : ℕ) → destinationLaid v place token ≡
-    (bothLaid token && (eqb (bit 23 token) 0 && eqb (bits 27 24 token) 0)) && ((eqb (bits 22 21 token) 0 || isPixel v) && relativeLaid v place token)
-destination-order v place token =
-    both-order (bothLaid token) (eqb (bits 22 21 token) 0 || isPixel v) (eqb (bit 23 token) 0) (eqb (bits 27 24 token) 0) (relativeLaid v place token)
-
-result-last : (a b c d e : Bool) → a && (b && (c && (d && (e || false)))) ≡ (a && (c && (d && e))) && b
-result-last false b c d e = refl
-result-last true true true true true = refl
-result-last true true true true false = refl
-result-last true true true false e = refl
-result-last true true false d e = refl
-result-last true false true true true = refl
-result-last true false true true false = refl
-result-last true false true false e = refl
-result-last true false false d e = refl
-
-pub typed-destination-order : (v : Version) (place token : ℕ) → mayBeRelative v place ≡ false → destinationLaid v place token ≡
-    (bothLaid token && (eqb (bit 23 token) 0 && (eqb (bits 27 24 token) 0 && eqb (bit 13 token) 0))) && (eqb (bits 22 21 token) 0 || isPixel v)
-typed-destination-order v place token n =
-    rw n (result-last (bothLaid token) (eqb (bits 22 21 token) 0 || isPixel v) (eqb (bit 23 token) 0) (eqb (bits 27 24 token) 0) (eqb (bit 13 token) 0))
-
-modifier-last : (a m e : Bool) → a && (m && (e || false)) ≡ (a && e) && m
-modifier-last false m e = refl
-modifier-last true true true = refl
-modifier-last true true false = refl
-modifier-last true false true = refl
-modifier-last true false false = refl
-
-pub typed-source-order : (v : Version) (place token : ℕ) → mayBeRelative v place ≡ false → sourceLaid v place token ≡
-    (bothLaid token && eqb (bit 13 token) 0) && modifierLaid place (modifierOf token) (typeOf token)
-typed-source-order v place token n =
-    rw n (modifier-last (bothLaid token) (modifierLaid place (modifierOf token) (typeOf token)) (eqb (bit 13 token) 0))
-
--- sets of one or two types, as tests of a type
-abbrev same : Bool → Bool → Bool
-same true b = b
-same false b = not b
-
-same-true : (a b : Bool) → same a b ≡ true → a ≡ b
-same-true true true t = refl
-same-true true false t = sym t
-same-true false true t = t
-same-true false false t = refl
-
-abbrev isCondition : Version → ℕ → Bool
-isCondition v k = pick (eqb k 14) true (pick (eqb k 19) (isThird v) false)
-
-abbrev conditionRule : Version → ℕ → Bool
-conditionRule v k = same (holds (conditionTypes v) k) (isCondition v k)
-
-conditions : (v : Version) → below (conditionRule v) 32 ≡ true
-unfolding holds
-conditions V2 = refl
-conditions V3 = refl
-conditions P2 = refl
-conditions P3 = refl
-
-pub condition-type : (v : Version) (k : ℕ) → k < 32 → holds (conditionTypes v) k ≡ isCondition v k
-condition-type v k h = same-true (holds (conditionTypes v) k) (isCondition v k) (below-at (conditionRule v) 32 k (conditions v) h)
-
-abbrev isRelative : Version → ℕ → Bool
-isRelative v k = pick (eqb k 15) true (pick (eqb k 3) (holds (relativeTypes v) 3) false)
-
-abbrev relativeRule : Version → ℕ → Bool
-relativeRule v k = same (holds (relativeTypes v) k) (isRelative v k)
-
-relatives : (v : Version) → below (relativeRule v) 32 ≡ true
-unfolding holds
-relatives V2 = refl
-relatives V3 = refl
-relatives P2 = refl
-relatives P3 = refl
-
-pub relative-type : (v : Version) (k : ℕ) → k < 32 → holds (relativeTypes v) k ≡ isRelative v k
-relative-type v k h = same-true (holds (relativeTypes v) k) (isRelative v k) (below-at (relativeRule v) 32 k (relatives v) h)
 
 -- "Bit 13 may be one only at places called free"
 pub typed-not-relative : (v : Version) (place : ℕ) → (place ≡ freeSource → ⊥) → (place ≡ freeDestination → ⊥) → mayBeRelative v place ≡ false

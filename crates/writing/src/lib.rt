@@ -381,7 +381,7 @@ pub fn write(
     ensures told { λ r. ⌜ toldWriting r ≡ toldWriting (writing version instruction (now (body .entry)) (now (buffer .entry)) at) ⌝ }
     ensures content { λ _. ⌜ now (buffer .exit) ≡ bufferAfter version instruction (now (body .entry)) (now (buffer .entry)) at ⌝ }
 {
-    let named = tokens::version_of(version);
+    let named = versions::version_of(version);
     match named {
         Named::Known(known) => write_known(version, known, instruction, body, buffer, at),
         Named::Unknown => refused(Reason::Version),
