@@ -1,2 +1,3 @@
 -- The tokens of a byte range.
 pub mod Bytes
+pub mod Views

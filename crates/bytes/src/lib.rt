@@ -4,8 +4,9 @@ ghost use Prim.Native.Nat.{_+_, _*_, _<_, _≤_};
 ghost use lib.ListN.{length, take, drop};
 ghost use Rattle.paper.specs.Numbers.{told, refusal};
 ghost use Rattle.paper.specs.Stream.{walked};
-ghost use Rattle.walk.specs.Stands.{stepAt};
+ghost use Rattle.walk.specs.Stands.{Stands};
 ghost use Rattle.bytes.specs.Bytes.{tokenAt, tokensOf, endsAt, bytesVerdict};
+ghost use Rattle.bytes.specs.Views.{Within, held as heldOf, Comes};
 use paper::Named;
 use paper::Reason;
 use paper::Refusal;
@@ -16,6 +17,9 @@ use walk::Stepped;
 
 // "Fewer than 2 or more than 16,384 tokens" are refused.
 const MOST_TOKENS: usize = 16384;
+
+// So many tokens are read at once.
+const WINDOW: usize = 128;
 
 fn wide(byte: u8) -> u32
     ensures { λ r. ⌜ (r ≡ byte) × (r < 256) ⌝ }
@@ -48,19 +52,6 @@ fn fill(window: &mut [u32], bytes: &[u8], from: usize, n: usize)
     }
 }
 
-// The first `n` of the `left` tokens from `from` on, at the front of a window. Where there are enough, sixteen are read at once:
-// no instruction but a comment has more, and a fixed number is copied in a few machine instructions.
-fn fill_window(window: &mut [u32], bytes: &[u8], from: usize, n: usize, left: usize)
-    requires { ⌜ (n ≤ 15) × (n ≤ left) × (length (now window) ≡ 16) × (4 * (from + left) ≤ length (now bytes)) ⌝ }
-    ensures { λ _. ⌜ take n (now (window .exit)) ≡ take n (drop from (tokensOf (now (bytes .entry)))) ⌝ }
-{
-    if 16 <= left {
-        fill(window, bytes, from, 16);
-    } else {
-        fill(window, bytes, from, n);
-    }
-}
-
 fn refused(reason: Reason, position: usize) -> Verdict
     ensures { λ r. ⌜ r ≡ Verdict.Refused (refusal reason position) ⌝ }
 {
@@ -77,38 +68,97 @@ fn conclude(state: State, tokens: usize) -> Verdict
     Verdict::Accepted(state.count)
 }
 
-// The step at `state` of a stream of `tokens` tokens. Its instruction's tokens are read where they lie, into a window, and no others.
-fn step_at(
+// A part of a stream, as a window holds it: so many tokens from a position on. The instructions that begin before `until` have all
+// their tokens in it, or the stream's last.
+struct View {
+    start: usize,
+    held: usize,
+    until: usize,
+}
+
+// The part from `at` on: 128 tokens, or all that are left. "Bits 27:24 are the size": nothing but a comment has more than sixteen
+// tokens, and a comment's body is skipped.
+fn view_from(at: usize, tokens: usize) -> View
+    requires { ⌜ at < tokens ⌝ }
+    ensures { λ r. ⌜ (r .start ≡ at) × (at < r .until) × (r .held ≤ 128) × Within tokens r ⌝ }
+{
+    let left = tokens - at;
+    if left <= WINDOW {
+        return View {
+            start: at,
+            held: left,
+            until: tokens,
+        };
+    }
+    View {
+        start: at,
+        held: WINDOW,
+        until: at + (WINDOW - 15),
+    }
+}
+
+// The walk from `from` on over a part that is held, as far as `until`.
+fn walk_view(
     version: Version,
     bytes: &[u8],
     tokens: usize,
-    state: State,
-    window: &mut [u32],
+    part: &[u32],
+    view: View,
+    from: State,
 ) -> Stepped
-    requires { ⌜ (state .at < tokens) × (length (now bytes) ≡ 4 * tokens) × (length (now window) ≡ 16) ⌝ }
-    ensures { λ r. ⌜ r ≡ stepAt version (tokensOf (now (bytes .entry))) state ⌝ }
+    requires { ⌜ (length (now bytes) ≡ 4 * tokens) × (now part ≡ heldOf (tokensOf (now bytes)) view) × Within tokens view × Stands version (tokensOf (now bytes)) from × (view .start ≤ from .at) × (from .at < view .until) ⌝ }
+    ensures { λ r. ⌜ Comes version (tokensOf (now (bytes .entry))) (view .until) r ⌝ }
 {
-    let at = state.at;
-    let left = tokens - (at + 1);
-    let first = token_at(bytes, at);
-    let shown = walk::shown_of(left);
-    fill_window(window, bytes, at + 1, shown, left);
-    walk::step(version, state, first, &window[..shown], left)
+    let beyond = tokens - (view.start + view.held);
+    let stop = view.until - view.start;
+    let mut state = from;
+    loop {
+        let stretch = instruction::judge_stretch(
+            version,
+            part,
+            state.at - view.start,
+            stop,
+            beyond,
+        );
+        let stepped = walk::step_told(
+            view.start + stretch.at,
+            state.count + stretch.count,
+            state.kinds,
+            stretch.told,
+        );
+        match stepped {
+            Stepped::On(next) => {
+                if view.until <= next.at {
+                    return Stepped::On(next);
+                }
+                state = next;
+            }
+            Stepped::Done(end) => {
+                return Stepped::Done(end);
+            }
+            Stepped::Refused(refusal) => {
+                return Stepped::Refused(refusal);
+            }
+        }
+    }
 }
 
-// The walk of a stream, from behind its version on.
+// The walk of a stream, from behind its version on: a window is filled with a part of it, and filled again where that ends.
 fn walk_bytes(version: Version, bytes: &[u8], tokens: usize) -> Verdict
     requires { ⌜ (1 ≤ tokens) × (length (now bytes) ≡ 4 * tokens) ⌝ }
     ensures { λ r. ⌜ r ≡ walked version (tokensOf (now (bytes .entry))) ⌝ }
 {
-    let mut window = [0u32; 16];
+    let mut window = [0u32; 128];
     let mut state = State {
         at: 1,
         count: 0,
         kinds: 0,
     };
     while state.at < tokens {
-        let stepped = step_at(version, bytes, tokens, state, &mut window);
+        let view = view_from(state.at, tokens);
+        let held = view.held;
+        fill(&mut window, bytes, state.at, held);
+        let stepped = walk_view(version, bytes, tokens, &window[..held], view, state);
         match stepped {
             Stepped::On(next) => {
                 state = next;

@@ -1,8 +1,9 @@
--- The ways in which a body ends: at a closer, or by a refusal.
-use Prim.Native.Nat.{ℕ, _+_, _≤_}
+-- A body: it passes items and stretches of plain instructions, and ends at a closer or by a refusal.
+use Prim.Native.Nat.{ℕ, suc, _+_, _≤_}
 use mathlib.Core.Path.{_≡_, refl, ap, sym, subst, _∙_}
-use mathlib.Core.Bool.{Bool}
+use mathlib.Core.Bool.{Bool, true}
 use mathlib.Core.List.{List}
+use native.Mathlib.Nat.{add-zero}
 use native.Mathlib.Omega.{arith}
 use lib.ListN.{length}
 use Rattle.paper.specs.Blocks.{Cut, out, wrong, then}
@@ -12,10 +13,13 @@ use Rattle.paper.specs.declared.Closer.{Closer}
 use Rattle.paper.specs.declared.Refusal.{Refusal}
 use Rattle.blocks.specs.Descent.{onItem, bodyOf}
 use Rattle.blocks.proofs.Unfold.{body-out, body-wrong, body-then}
+use Rattle.instruction.specs.Stretch.{toldAt, isPlain, nextAt, Leads, here, past}
+use Rattle.instruction.proofs.Stretches.{plain-from}
 use Rattle.checking.specs.declared.BodyEnd.the-variants.{Stopped, Broken}
 use Rattle.checking.specs.declared.ItemEnd.{ItemEnd}
 use Rattle.checking.specs.declared.ItemEnd.the-variants.{Passed, Closer as Closed, Refused}
 use Rattle.checking.specs.Ends.{itemEnd, itemAt, Begins, Onward, Stops, ItemWithin, BodyIs, ItemIs}
+use Rattle.checking.proofs.ItemEnds.{item-passed}
 
 -- a body is its first item and the rest
 body-on : (depth : ℕ) (inLoop : Bool) (a : Cut) → bodyOf depth inLoop a ≡ onItem (itemAt depth inLoop a) (λ b. bodyOf depth inLoop b)
@@ -71,3 +75,25 @@ module _ {v : Version} {s : List ℕ} {depth : ℕ} {inLoop : Bool} {at m : ℕ}
 
     pub body-broken : {f : Refusal} → r ≡ Refused f → BodyIs v s depth inLoop at m (Broken f)
     body-broken {f} e = record { is = further (Refused f) e; within = tt }
+
+-- a stretch leads on
+pub leads-on : {v : Version} {s : List ℕ} {beyond stop start at n : ℕ} → Leads v s beyond stop start at n → start ≤ at
+leads-on here = omega arith
+leads-on (past l plain before) = omega (arith, leads-on l)
+
+-- a body passes a plain instruction wherever it stands, and so a stretch of them
+module _ {v : Version} {s : List ℕ} {depth : ℕ} {inLoop : Bool} {at m : ℕ} (begun : Begins s depth at m) where
+  pub begins-at : {place n : ℕ} → Reached v s depth inLoop at m place n → Begins s depth place n
+  begins-at g = record { depths = begun .depths; starts = g .inside; few = g .few }
+
+  plain-passed : {place n : ℕ} → Reached v s depth inLoop at m place n → isPlain (toldAt v s 0 place) ≡ true →
+      Reached v s depth inLoop at m (nextAt place (toldAt v s 0 place)) (n + 1)
+  plain-passed {place} {n} g plain =
+      reached-on g (item-passed v (begins-at g, refl) refl (plain-from (toldAt v s 0 place) plain) refl refl refl refl) refl
+
+  pub stretch-passed : {start k : ℕ} → Reached v s depth inLoop at m start k → {stop place n : ℕ} → Leads v s 0 stop start place n →
+      Reached v s depth inLoop at m place (k + n)
+  stretch-passed {start} {k} g here = rw (add-zero k) g
+  stretch-passed {start} {k} g (past {n} l plain before) =
+      let more : k + suc n ≡ k + n + 1 = omega arith in
+      rw more (plain-passed (stretch-passed g l) plain)

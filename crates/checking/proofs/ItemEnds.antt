@@ -7,7 +7,6 @@ use native.Mathlib.Nat.{add-zero}
 use native.Mathlib.Omega.{arith}
 use lib.Dec.{eqb, ltb}
 use lib.ListN.{length, drop, length-drop, drop-of-length-le}
-use lib.Seq.{take-length}
 use borrow.Author.Tests.{lt-ltb, le-ltb, ltb-true, ltb-false, ne-eqb}
 use Rattle.paper.specs.Numbers.{refusal}
 use Rattle.paper.specs.Instruction.{judged}
@@ -28,17 +27,18 @@ use Rattle.blocks.specs.Descent
 use Rattle.blocks.specs.Descent.{refused, itemOf, blockOf}
 use Rattle.blocks.proofs.Cutting.{cut-none, cut-at}
 use Rattle.blocks.proofs.Unfold.{item-one, item-opens, item-closes}
+use Rattle.instruction.specs.Numbered.{judgedFrom}
+use Rattle.instruction.specs.Stretch.{toldAt}
+use Rattle.instruction.proofs.Numbers.{judged-back}
+use Rattle.instruction.proofs.Stretches.{told-whole}
 use Rattle.checking.specs.declared.ItemEnd.{ItemEnd}
 use Rattle.checking.specs.declared.ItemEnd.the-variants.{Passed, Closer as Closed, Refused}
-use Rattle.checking.specs.Ends.{from, itemAt, Begins, Onward, ItemIs, BlockIs, tallyOf}
+use Rattle.checking.specs.Ends.{itemAt, Begins, Onward, ItemIs, BlockIs, tallyOf}
 use Rattle.checking.proofs.Within.{Within, judged-within}
 
 pub zero-test : (n : ℕ) → eqb n 0 ≡ isZero n
 zero-test zero = refl
 zero-test (suc n) = ne-eqb (suc n) 0 (λ e. omega arith)
-
-from-is : (s : List ℕ) (at : ℕ) → from s at ≡ drop at s
-from-is s at = rw (← length-drop at s) (take-length (drop at s))
 
 tally-counts : (x : Single) (m n : ℕ) → m + tallyOf x + n ≡ m + counts (One x) n
 tally-counts Comment m n = omega arith
@@ -73,16 +73,17 @@ out-is at r e =
     let is : refusal RUN-OUT 0 ≡ r = cc in
     ap (λ n. refused (refusal RUN-OUT n)) (sym (add-zero at)) ∙ ap (λ (x : Refusal). refused (refusal (x .reason) (at + x .position))) is
 
-module _ (v : Version) {s : List ℕ} {depth at m : ℕ} (begun : Begins s depth at m) {j : Judged} (e : j ≡ judged v (from s at)) where
+module _ (v : Version) {s : List ℕ} {depth at m told : ℕ} (begun : Begins s depth at m × (told ≡ toldAt v s 0 at))
+    {j : Judged} (e : j ≡ judgedFrom told) where
   judged-at : j ≡ judged v (drop at s)
-  judged-at = e ∙ ap (judged v) (from-is s at)
+  judged-at = e ∙ ap judgedFrom (begun .1 ∙ told-whole v s at) ∙ judged-back (judged v (drop at s))
 
   -- an instruction that is good by itself
   module _ {size : ℕ} {class : Class} (f : j ≡ Good size class) where
     pub good-inside : at + 1 + size ≤ length s
     good-inside =
         let fits : size < length (drop at s) = subst (Within (length (drop at s))) (sym judged-at ∙ f) (judged-within v (drop at s)) in
-        omega (arith, begun .starts, length-drop at s)
+        omega (arith, begun .0 .starts, length-drop at s)
 
     cut : cutFrom v s at ≡ then class at (cutFrom v s (at + 1 + size))
     cut =
@@ -104,7 +105,7 @@ module _ (v : Version) {s : List ℕ} {depth at m : ℕ} (begun : Begins s depth
           within = record {
             after = omega arith;
             inside = good-inside;
-            few = omega (arith, begun .few, tally-small x k);
+            few = omega (arith, begun .0 .few, tally-small x k);
             counted = rw (k, counted, g) (tally-counts x m (count (cutFrom v s (at + 1 + size))));
           };
         }
@@ -123,7 +124,7 @@ module _ (v : Version) {s : List ℕ} {depth at m : ℕ} (begun : Begins s depth
           record {
             after = omega arith;
             inside = good-inside;
-            few = omega (arith, begun .few);
+            few = omega (arith, begun .0 .few);
             counted = rw (counted, g) (omega arith);
           }
 
@@ -153,7 +154,7 @@ module _ (v : Version) {s : List ℕ} {depth at m : ℕ} (begun : Begins s depth
             after = omega arith;
             closer = omega arith;
             inside = good-inside;
-            few = begun .few;
+            few = begun .0 .few;
             counted = rw (counted, g) refl;
           };
         }
@@ -163,7 +164,7 @@ module _ (v : Version) {s : List ℕ} {depth at m : ℕ} (begun : Begins s depth
     pub wrong-inside : at + r .position ≤ length s
     wrong-inside =
         let fits : r .position ≤ length (drop at s) = subst (Within (length (drop at s))) (sym judged-at ∙ f) (judged-within v (drop at s)) in
-        omega (arith, begun .starts, length-drop at s)
+        omega (arith, begun .0 .starts, length-drop at s)
 
     wrong-cut : (inLoop test : Bool) → ltb at (length s) ≡ test →
         itemAt depth inLoop (cutFrom v s at) ≡ refused (refusal (r .reason) (at + r .position))

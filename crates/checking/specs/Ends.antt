@@ -1,10 +1,10 @@
 -- What the functions of the descent give back, in terms of the grammar's parts.
-use Prim.Native.Nat.{ℕ, _+_, _-_, _^_, _<_, _≤_}
+use Prim.Native.Nat.{ℕ, _+_, _^_, _<_, _≤_}
 use mathlib.Core.Path.{_≡_}
 use mathlib.Core.Bool.{Bool}
 use mathlib.Core.List.{List}
 use lib.Dec.{eqb, ltb}
-use lib.ListN.{length, take, drop}
+use lib.ListN.{length}
 use Rattle.paper.specs.Notation.{pick}
 use Rattle.paper.specs.Numbers.{refusal}
 use Rattle.paper.specs.Blocks.{Cut, out, wrong, then, mostOpen}
@@ -26,10 +26,6 @@ use Rattle.checking.specs.declared.BodyEnd.{BodyEnd}
 use Rattle.checking.specs.declared.BodyEnd.the-variants.{Stopped, Broken}
 use Rattle.checking.specs.declared.ItemEnd.{ItemEnd}
 use Rattle.checking.specs.declared.ItemEnd.the-variants.{Passed, Closer as Closed, Refused}
-
--- the tokens from a position on, as the code lends them
-abbrev pub from : List ℕ → ℕ → List ℕ
-from s at = take (length s - at) (drop at s)
 
 -- the grammar's answer for an answer with positions in a stream
 abbrev pub bodyEnd : Version → List ℕ → BodyEnd → Descent.BodyEnd

@@ -3,11 +3,11 @@ ghost use mathlib.Core.Path.{_≡_};
 ghost use Prim.Native.Nat.{_+_, _≤_};
 ghost use lib.ListN.{length};
 ghost use Rattle.paper.specs.Numbers.{refusal, told};
-ghost use Rattle.paper.specs.Instruction.{judged};
 ghost use Rattle.paper.specs.Blocks.{stands, loopsIn, closerOf};
 ghost use Rattle.paper.specs.Walk.{closerNumber};
 ghost use Rattle.paper.specs.Stream.{walked, checked};
-ghost use Rattle.checking.specs.Ends.{from, Begins, BodyIs, ItemIs, BlockIs, Low, tallyOf, lastEnd, ending};
+ghost use Rattle.instruction.specs.Stretch.{toldAt};
+ghost use Rattle.checking.specs.Ends.{Begins, BodyIs, ItemIs, BlockIs, Low, tallyOf, lastEnd, ending};
 use paper::Class;
 use paper::Closer;
 use paper::Judged;
@@ -138,15 +138,7 @@ fn close(end: BodyEnd, own: u32) -> ItemEnd
     }
 }
 
-// The instruction at a position, judged.
-fn judge_at(version: Version, tokens: &[u32], at: usize) -> Judged
-    requires { ⌜ at ≤ length (now tokens) ⌝ }
-    ensures { λ r. ⌜ r ≡ judged version (from (now (tokens .entry)) at) ⌝ }
-{
-    instruction::judge(version, &tokens[at..])
-}
-
-// A row of items, up to the closer behind it.
+// A row of items, up to the closer behind it. A plain instruction may stand anywhere, so that a stretch of them is passed in one call.
 fn body(
     version: Version,
     tokens: &[u32],
@@ -161,14 +153,17 @@ fn body(
     let mut place = at;
     let mut counted = count;
     loop {
-        let end = item(version, tokens, place, counted, depth, in_loop);
+        let stretch = instruction::judge_stretch(version, tokens, place, tokens.len(), 0);
+        let here = stretch.at;
+        let more = counted + stretch.count;
+        let end = item(version, tokens, here, more, depth, in_loop, stretch.told);
         match end {
-            ItemEnd::Passed(next, more) => {
+            ItemEnd::Passed(next, further) => {
                 place = next;
-                counted = more;
+                counted = further;
             }
             ItemEnd::Closer(closer, next) => {
-                return BodyEnd::Stopped(closer, place, next, counted);
+                return BodyEnd::Stopped(closer, here, next, more);
             }
             ItemEnd::Refused(refusal) => {
                 return BodyEnd::Broken(refusal);
@@ -177,7 +172,7 @@ fn body(
     }
 }
 
-// One instruction or a block.
+// One instruction, of which this is told, or a block that it opens.
 fn item(
     version: Version,
     tokens: &[u32],
@@ -185,11 +180,12 @@ fn item(
     count: usize,
     depth: usize,
     in_loop: bool,
+    told: u64,
 ) -> ItemEnd
-    requires { ⌜ Begins (now tokens) depth at count ⌝ }
+    requires { ⌜ Begins (now tokens) depth at count × (told ≡ toldAt version (now tokens) 0 at) ⌝ }
     ensures { λ r. ⌜ ItemIs version (now (tokens .entry)) depth in_loop at count r ⌝ }
 {
-    let judged = judge_at(version, tokens, at);
+    let judged = instruction::judged_of(told);
     match judged {
         Judged::Good(size, class) => {
             let next = at + 1 + size;

@@ -21,6 +21,9 @@ use walk::Stepped;
 // "Fewer than 2 or more than 16,384 tokens" are refused.
 const MOST_TOKENS: usize = 16384;
 
+// "Bits 27:24 are the size": an instruction is judged by no more than its first token and fifteen behind it.
+const MOST_SHOWN: usize = 16;
+
 // A walk comes to a position, and stands there so, or it does not come there.
 enum Found {
     At(State),
@@ -40,7 +43,7 @@ fn walk_to(version: Version, tokens: &[u32], from: State, target: usize) -> Foun
 {
     let mut state = from;
     while state.at < target {
-        let stepped = walk::step_in(version, state, tokens, state.at);
+        let stepped = walk::step_in(version, state, tokens, state.at, 0);
         match stepped {
             Stepped::On(next) => {
                 if target < next.at {
@@ -82,7 +85,18 @@ fn gather(window: &mut [u32], run: &[u32], old: &[u32], j: usize, from: usize, n
     }
 }
 
-// The step at `state` of the splice, at i or behind. Only an instruction of the run that takes old tokens is gathered into the window.
+// How many tokens of an instruction are shown, where so many are left from its first one on: all but those past the sixteenth.
+fn shown_of(left: usize) -> usize
+    ensures { λ r. ⌜ r + (left - 16) ≡ left ⌝ }
+{
+    if left < MOST_SHOWN {
+        return left;
+    }
+    MOST_SHOWN
+}
+
+// The step at `state` of the splice, at i or behind. Only an instruction of the run that may take old tokens is gathered into the
+// window.
 fn step_spliced(
     version: Version,
     old: &[u32],
@@ -97,19 +111,17 @@ fn step_spliced(
 {
     let at = state.at - i;
     if run.len() <= at {
-        return walk::step_in(version, state, old, j + (at - run.len()));
+        return walk::step_in(version, state, old, j + (at - run.len()), 0);
     }
-    let from = at + 1;
-    let own = run.len() - from;
-    let left = own + (old.len() - j);
-    let first = run[at];
-    let shown = walk::shown_of(left);
-    if shown <= own {
-        let end = from + shown;
-        return walk::step(version, state, first, &run[from..end], left);
+    let own = run.len() - at;
+    let rest = old.len() - j;
+    if MOST_SHOWN <= own {
+        return walk::step_in(version, state, run, at, rest);
     }
-    gather(window, run, old, j, from, shown);
-    walk::step(version, state, first, &window[..shown], left)
+    let left = own + rest;
+    let shown = shown_of(left);
+    gather(window, run, old, j, at, shown);
+    walk::step_in(version, state, &window[..shown], 0, left - shown)
 }
 
 // Behind the END that finishes a splice of `length` tokens.

@@ -7,7 +7,7 @@ use native.Mathlib.Nat.{mod-lt, add-zero}
 use native.Mathlib.Omega.{arith}
 use lib.Dec.{eqb, leb, leb·zero, lit<}
 use lib.ListN.{length, take, drop, getD, length-take, length-drop}
-use lib.Seq.{drop-drop, getD-drop, take-all, take-take}
+use lib.Seq.{drop-drop, getD-drop, take-take}
 use borrow.Author.Tests.{ne-eqb, eqb-true, eqb-false, le-leb, lt-leb, leb-true, leb-false}
 use Rattle.paper.specs.Notation.{pick}
 use Rattle.paper.specs.Numbers.{refusal}
@@ -34,9 +34,9 @@ use Rattle.opcodes.proofs.Laws.{shape-absent, shape-class}
 use Rattle.opcodes.proofs.Table.{beyond}
 use Rattle.instruction_token.specs.declared.Head.{Head}
 use Rattle.instruction_token.specs.declared.Head.the-variants.{Refused, End, Comment, Declaration, Operation}
-use Rattle.instruction_token.specs.Encoded.{encoded, claimOf, classIn, bitsBy, placesBy, headBy}
+use Rattle.instruction_token.specs.Encoded.{encoded, classIn, bitsBy, placesBy, headBy}
 use Rattle.instruction_token.proofs.Heads.{head-comment, head-end, head-other}
-use Rattle.instruction.specs.Claimed.{judgedBy, listedIn}
+use Rattle.instruction.specs.Claimed.{listedIn}
 use Rattle.instruction.specs.Numbered.{roomFor, judgedWith, judgedIn, unlistedIn}
 use Rattle.instruction.proofs.Claimed.{judged-some}
 
@@ -215,16 +215,3 @@ judged-shown v s behind at left h l same =
     let rest : drop 1 (drop at s) ≡ drop (at + 1) s = drop-drop 1 at s in
     let whole = judged-whole v (drop at s) left (λ e. omega (arith, length-drop at s)) (rw (rest, length-drop (at + 1) s) l) in
     shown-alike v (getD s at 0) behind (drop (at + 1) s) left same ∙ sym (rw (token, rest) at whole)
-
--- an instruction of which just the claimed tokens are shown
-pub judged-claimed : (v : Version) (first : ℕ) (behind : List ℕ) (left : ℕ) → left ≡ claimOf (encoded (head v first)) → length behind ≡ left →
-    judgedIn v first behind left ≡ judgedBy v (encoded (head v first)) first behind
-unfolding judgedIn
-judged-claimed v first behind left c l = by (encoded (head v first)) c
-  where
-    by : (h : Head) → left ≡ claimOf h → judgedWith v h first behind left ≡ judgedBy v h first behind
-    by (Refused reason) c = rw (leb·zero (length behind)) refl
-    by End c = rw (leb·zero (length behind)) refl
-    by (Comment n) c = rw (le-leb n left (omega arith)) refl
-    by (Declaration size) c = rw (le-leb size (length behind) (omega arith), take-all size behind (omega arith)) refl
-    by (Operation ps size) c = rw (le-leb size (length behind) (omega arith), take-all size behind (omega arith)) refl

@@ -1,3 +1,4 @@
 pub mod Numbers
 pub mod Claimed
 pub mod Judging
+pub mod Stretches

@@ -1,3 +1,4 @@
 -- What is told of an instruction, as the code hands it on.
 pub mod Claimed
 pub mod Numbered
+pub mod Stretch

@@ -1,5 +1,8 @@
 // One instruction, judged on its own tokens: document 01, "The numbers given back", the order within one instruction.
 ghost use mathlib.Core.Path.{_≡_};
+ghost use Prim.Native.Nat.{_+_};
+ghost use lib.Dec.{leb};
+ghost use lib.ListN.{length};
 ghost use Rattle.paper.specs.InstructionToken.{opcodeOf};
 ghost use Rattle.paper.specs.Blocks.{classOf};
 ghost use Rattle.paper.specs.Dcl.{declaration};
@@ -9,6 +12,7 @@ ghost use Rattle.instruction_token.specs.Encoded.{classIn};
 ghost use Rattle.operands.specs.Numbered.{operandsNumber};
 ghost use Rattle.instruction.specs.Claimed.{operandsBy, listedIn};
 ghost use Rattle.instruction.specs.Numbered.{classBy, reasonBy, judgedNumber, judgedFrom, judgedIn, unlistedIn};
+ghost use Rattle.instruction.specs.Stretch.{toldAt, Stretched};
 use paper::Class;
 use paper::Closer;
 use paper::Judged;
@@ -69,18 +73,28 @@ fn judge_listed(version: Version, shape: u64, first: u32, behind: &[u32]) -> u64
     told
 }
 
-// An instruction whose opcode is in no row of its version.
-fn judge_unlisted(first: u32, left: usize) -> u64
-    ensures { λ r. ⌜ r ≡ judgedNumber (unlistedIn first left) ⌝ }
+// Whether so many tokens are there, of which some are shown and `beyond` more are there. No sum is made, which might not fit.
+fn are_there(length: usize, shown: usize, beyond: usize) -> bool
+    ensures { λ r. ⌜ r ≡ leb length (shown + beyond) ⌝ }
+{
+    if shown < length {
+        return length - shown <= beyond;
+    }
+    true
+}
+
+// An instruction whose opcode is in no row of its version, where behind its first token so many are shown and `beyond` more are there.
+fn judge_unlisted(first: u32, shown: usize, beyond: usize) -> u64
+    ensures { λ r. ⌜ r ≡ judgedNumber (unlistedIn first (shown + beyond)) ⌝ }
 {
     let opcode = first % 0x1_0000;
     if opcode == 0xFFFE {
         if first / 0x8000_0000 % 2 == 0 {
             let length = (first / 0x1_0000 % 0x8000) as usize;
-            if left < length {
-                return RUN_OUT;
+            if are_there(length, shown, beyond) {
+                return 32 * (length as u64);
             }
-            return 32 * (length as u64);
+            return RUN_OUT;
         }
         return BITS;
     }
@@ -93,19 +107,67 @@ fn judge_unlisted(first: u32, left: usize) -> u64
     OPCODE
 }
 
-// The instruction whose first token this is, where `left` tokens are left behind it. Of these the first fifteen are shown, or all:
+// The instruction whose first token this is. Of the tokens behind it the first fifteen are shown, or all, and `beyond` more are there:
 // nothing but a comment claims more, and a comment's are not looked at.
-pub fn judge_first(version: Version, first: u32, behind: &[u32], left: usize) -> u64
-    ensures { λ r. ⌜ r ≡ judgedNumber (judgedIn version first (now (behind .entry)) left) ⌝ }
+fn judge_first(version: Version, first: u32, behind: &[u32], beyond: usize) -> u64
+    ensures { λ r. ⌜ r ≡ judgedNumber (judgedIn version first (now (behind .entry)) (length (now (behind .entry)) + beyond)) ⌝ }
 {
     let shape = opcodes::shape_of(version, first % 0x1_0000);
     if shape == 0 {
-        return judge_unlisted(first, left);
+        return judge_unlisted(first, behind.len(), beyond);
     }
     if instruction_token::bits_laid(shape, first) {
         return judge_listed(version, shape, first, &behind[0..]);
     }
     BITS
+}
+
+// Where a stretch of plain instructions ends: the position of the instruction at its end, how many plain ones are before it, and
+// what is told of it.
+pub struct Stretch {
+    pub at: usize,
+    pub count: usize,
+    pub told: u64,
+}
+
+// Judges instruction after instruction from `from` on, as long as they are plain and the next one begins before `stop`. Behind these
+// tokens `beyond` more are there. Most instructions are plain: they neither open nor close a block, and may stand anywhere.
+pub fn judge_stretch(
+    version: Version,
+    tokens: &[u32],
+    from: usize,
+    stop: usize,
+    beyond: usize,
+) -> Stretch
+    ensures { λ r. ⌜ Stretched version (now (tokens .entry)) from stop beyond r ⌝ }
+{
+    let mut at = from;
+    let mut count = 0;
+    while at < tokens.len() {
+        let told = judge_first(version, tokens[at], &tokens[at + 1..], beyond);
+        if told % 32 != 2 {
+            return Stretch { at, count, told };
+        }
+        let next = at + 1 + (told / 32) as usize;
+        if stop <= next {
+            return Stretch { at, count, told };
+        }
+        at = next;
+        count += 1;
+    }
+    Stretch {
+        at,
+        count,
+        told: RUN_OUT,
+    }
+}
+
+// What is told of the instruction at a place of these tokens, behind which `beyond` more are there.
+pub fn judge_at(version: Version, tokens: &[u32], at: usize, beyond: usize) -> u64
+    ensures { λ r. ⌜ r ≡ toldAt version (now (tokens .entry)) beyond at ⌝ }
+{
+    let stretch = judge_stretch(version, tokens, at, 0, beyond);
+    stretch.told
 }
 
 fn class_by(number: u64) -> Class
@@ -168,9 +230,5 @@ pub fn judged_of(told: u64) -> Judged
 pub fn judge(version: Version, tokens: &[u32]) -> Judged
     ensures { λ r. ⌜ r ≡ judged version (now (tokens .entry)) ⌝ }
 {
-    if tokens.len() == 0 {
-        return judged_of(RUN_OUT);
-    }
-    let told = judge_first(version, tokens[0], &tokens[1..], tokens.len() - 1);
-    judged_of(told)
+    judged_of(judge_at(version, tokens, 0, 0))
 }

@@ -47,8 +47,7 @@ fn read_at(version: Version, tokens: &[u32], at: usize) -> Reading
         return refused_at(Reason::RunOut, at);
     }
     let end = from + claim;
-    let told = instruction::judge_first(version, first, &tokens[from..end], claim);
-    let judged = instruction::judged_of(told);
+    let judged = instruction::judge(version, &tokens[at..]);
     match judged {
         Judged::Good(size, _) => {
             let instruction = records::read_record(head, first, &tokens[from..end]);

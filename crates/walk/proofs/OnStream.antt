@@ -169,6 +169,11 @@ module _ (v : Version) (s : List ℕ) (state : State) (h : Stands v s state) (lt
     refused-next (bad reason) f r g = let same : refusal reason (state .at) ≡ r = cc in refused-here reason f ∙ ap no-verdict same
     refused-next finish f r g = let z : _≡_ {A = ℕ} 0 1 = cc in absurd (omega arith)
 
+  -- a plain instruction leaves the blocks as they are
+  pub stands-plain : (size : ℕ) → judged v (drop (state .at) s) ≡ Good size (One Plain) →
+      Stands v s (record { at = state .at + suc size; count = suc (state .count); kinds = state .kinds })
+  stands-plain size e = rw (h .numbered) (stands-behind size (One Plain) e (h .opened) refl)
+
   -- a refused instruction
   refused-unfit : (q : Refusal) → judged v (drop (state .at) s) ≡ unfit q → (r : Refusal) → onJudged (unfit q) state ≡ Refused r →
       walked v s ≡ no-verdict r

@@ -1,8 +1,6 @@
 -- One step of the walk: an instruction is judged, and the walk's state moves behind it.
 -- Document 01, "The numbers given back": RUN-OUT, the operands, then BLOCK and DEPTH.
 use Prim.Native.Nat.{ℕ, _+_, _%_, _^_}
-use lib.Dec.{ltb}
-use Rattle.paper.specs.Notation.{pick}
 use Rattle.paper.specs.Numbers.{refusal}
 use Rattle.paper.specs.Stream.{counts}
 use Rattle.paper.specs.declared.Class.{Class}
@@ -35,7 +33,3 @@ onNextBy Finish state size class = Done (behindOf state size class (state .kinds
 abbrev pub onJudged : Judged → State → Stepped
 onJudged (Good size class) state = onNextBy (nextBy (state .kinds) class) state size class
 onJudged (unfit r) state = Refused (refusal (r .reason) (wrapped (state .at + r .position)))
-
--- "Bits 27:24 are the size": of so many tokens left behind an instruction's first one, it is judged by no more than fifteen
-abbrev pub shownOf : ℕ → ℕ
-shownOf left = pick (ltb left 15) left 15

@@ -2,15 +2,14 @@
 ghost use mathlib.Core.Path.{_≡_};
 ghost use Prim.Native.Nat.{_/_, _%_};
 ghost use lib.Dec.{eqb};
-ghost use lib.ListN.{drop};
 ghost use Rattle.paper.specs.Numbers.{refusal};
-ghost use Rattle.paper.specs.Instruction.{judged};
 ghost use Rattle.paper.specs.Stream.{counts};
 ghost use Rattle.paper.specs.declared.Class.the-variants.{One};
 ghost use Rattle.paper.specs.declared.Single.the-variants.{Plain};
-ghost use Rattle.instruction.specs.Numbered.{judgedFrom, judgedIn};
+ghost use Rattle.instruction.specs.Numbered.{judgedFrom};
+ghost use Rattle.instruction.specs.Stretch.{toldAt};
 ghost use Rattle.walk.specs.Kinds.{inLoopBy, allowedBy, standsBy, opensBy, closesBy, nextBy};
-ghost use Rattle.walk.specs.Steps.{wrapped, stateOf, behindOf, onNextBy, onJudged, shownOf};
+ghost use Rattle.walk.specs.Steps.{wrapped, stateOf, behindOf, onNextBy, onJudged};
 ghost use Rattle.walk.specs.declared.Stepped.the-variants.{On};
 use paper::Class;
 use paper::Closer;
@@ -23,9 +22,6 @@ use paper::Version;
 
 // 5^23: with 24 blocks open their number is at least this.
 const DEEPEST: u64 = 11_920_928_955_078_125;
-
-// "Bits 27:24 are the size": nothing but a comment claims more tokens behind its first one.
-const MOST_CLAIMED: usize = 15;
 
 // What an instruction does to the open blocks: the walk goes on with these, is refused, or is at its end.
 pub enum Next {
@@ -191,14 +187,15 @@ fn is_plain(told: u64) -> bool
 }
 
 // The state behind such an instruction.
-fn passed(state: State, told: u64) -> Stepped
-    ensures { λ r. ⌜ r ≡ On (behindOf state (told / 32) (One Plain) (state .kinds)) ⌝ }
+fn passed(at: usize, count: usize, kinds: u64, told: u64) -> Stepped
+    ensures { λ r. ⌜ r ≡ On (behindOf (stateOf at count kinds) (told / 32) (One Plain) kinds) ⌝ }
 {
+    let state = State { at, count, kinds };
     Stepped::On(behind_of(
         state,
         (told / 32) as usize,
         Class::One(Single::Plain),
-        state.kinds,
+        kinds,
     ))
 }
 
@@ -220,39 +217,20 @@ fn moved(at: usize, count: usize, kinds: u64, told: u64) -> Stepped
     }
 }
 
-// How many of the tokens behind an instruction's first one are shown, where so many are left.
-pub fn shown_of(left: usize) -> usize
-    ensures { λ r. ⌜ r ≡ shownOf left ⌝ }
+// The step over an instruction of which this is told, from a state with these fields.
+pub fn step_told(at: usize, count: usize, kinds: u64, told: u64) -> Stepped
+    ensures { λ r. ⌜ r ≡ onJudged (judgedFrom told) (stateOf at count kinds) ⌝ }
 {
-    if left < MOST_CLAIMED {
-        return left;
+    if is_plain(told) {
+        return passed(at, count, kinds, told);
     }
-    MOST_CLAIMED
+    moved(at, count, kinds, told)
 }
 
-// The instruction at `state`, whose first token is `first`: of the `left` tokens behind it the first fifteen are shown, or all.
-pub fn step(version: Version, state: State, first: u32, behind: &[u32], left: usize) -> Stepped
-    ensures { λ r. ⌜ r ≡ onJudged (judgedIn version first (now (behind .entry)) left) state ⌝ }
+// The step over the instruction at a place of these tokens, behind which `beyond` more are there. It is at `state` of the walk.
+pub fn step_in(version: Version, state: State, tokens: &[u32], at: usize, beyond: usize) -> Stepped
+    ensures { λ r. ⌜ r ≡ onJudged (judgedFrom (toldAt version (now (tokens .entry)) beyond at)) state ⌝ }
 {
-    let told = instruction::judge_first(version, first, behind, left);
-    if is_plain(told) {
-        return passed(state, told);
-    }
-    moved(state.at, state.count, state.kinds, told)
-}
-
-// The instruction at a place of these tokens, which is at `state` of the walk.
-pub fn step_in(version: Version, state: State, tokens: &[u32], at: usize) -> Stepped
-    ensures { λ r. ⌜ r ≡ onJudged (judged version (drop at (now (tokens .entry)))) state ⌝ }
-{
-    if tokens.len() <= at {
-        return refused(Reason::RunOut, state.at);
-    }
-    let from = at + 1;
-    let left = tokens.len() - from;
-    let told = instruction::judge_first(version, tokens[at], &tokens[from..], left);
-    if is_plain(told) {
-        return passed(state, told);
-    }
-    moved(state.at, state.count, state.kinds, told)
+    let told = instruction::judge_at(version, tokens, at, beyond);
+    step_told(state.at, state.count, state.kinds, told)
 }

@@ -1,18 +1,20 @@
-use Prim.Native.Nat.{_-_}
-use mathlib.Core.Path.{_≡_, sym, _∙_}
+use Prim.Native.Nat.{ℕ, _-_}
+use mathlib.Core.Path.{_≡_, sym, ap, subst, _∙_}
 use native.Mathlib.Omega.{arith}
-use lib.ListN.{length}
+use lib.ListN.{length, take, drop}
+use lib.Seq.{length-take-le}
 use borrow.Author.Needs.{needs}
 use Rattle.walk.specs.Stands.{Stands}
 use Rattle.walk.proofs.OnStream.{stands-first}
 use Rattle.bytes.specs.Bytes.{tokensOf}
+use Rattle.bytes.specs.Views.{Comes}
 use Rattle.bytes.proofs.Tokens.{tokens-length}
-use Rattle.bytes.proofs.Turn.{bytes-out, turn-on, turn-done, turn-refused}
+use Rattle.bytes.proofs.Turn.{bytes-out, ends-is}
 use Rattle.bytes.proofs.walk_bytes.Statement.{statement}
 use Rattle.bytes.proofs.walk_bytes.Tie as tie
 
 abbrev Inv-loop : tie.InvT-loop
-Inv-loop version bytes tokens window₀ state₀ window state = (length window ≡ 16) × Stands version (tokensOf bytes) state
+Inv-loop version bytes tokens window₀ state₀ window state = (length window ≡ 128) × Stands version (tokensOf bytes) state
 
 abbrev μ-loop : tie.MeasureT-loop
 μ-loop version bytes tokens window₀ state₀ window state = tokens - state .at
@@ -22,34 +24,66 @@ loop-holds c =
     let g = c .before .args in
     (search needs, stands-first (g .version) (tokensOf (g .bytes .now)) (omega (arith, tokens-length (g .bytes .now) (g .tokens) (c .before .pre .1))))
 
-slice-aggregate-step-at : tie.Need-slice-aggregate-step-at Inv-loop μ-loop
-slice-aggregate-step-at c = search needs
+view-from-requires : tie.Need-view-from-requires Inv-loop μ-loop
+view-from-requires c κs = search needs
 
-step-at-requires : tie.Need-step-at-requires Inv-loop μ-loop
-step-at-requires c κs = search needs
+slice-aggregate-fill : tie.Need-slice-aggregate-fill Inv-loop μ-loop
+slice-aggregate-fill c = search needs
+
+fill-requires : tie.Need-fill-requires Inv-loop μ-loop
+fill-requires c κs =
+    let n = c .before in
+    let s = n .before .before .before .before .before in
+    (omega (arith, n .view-from .ensures .2, n .before .before .before .loop .inv .0), omega (arith, n .view-from .ensures, n .view-from .ensures .3 .inside, s .pre .1))
+
+array-share-prefix-window : tie.Need-array-share-prefix-window Inv-loop μ-loop
+array-share-prefix-window c =
+    let n = c .before .before .before in
+    omega (arith, c .before .fill .kept .0, n .view-from .ensures .2, n .before .before .before .loop .inv .0)
+
+slice-aggregate-walk-view : tie.Need-slice-aggregate-walk-view Inv-loop μ-loop
+slice-aggregate-walk-view c =
+    let n = c .before .before .before .before in
+    let f = c .before .before .fill in
+    sym (length-take-le (n .view-from .result .held) (f .last .0) (omega (arith, f .kept .0, n .view-from .ensures .2, n .before .before .before .loop .inv .0)))
+
+walk-view-requires : tie.Need-walk-view-requires Inv-loop μ-loop
+walk-view-requires c κs =
+    let n = c .before .before .before .before in
+    let s = n .before .before .before .before .before in
+    let l = n .before .before .before .loop in
+    let view = n .view-from .result in
+    let e = n .view-from .ensures in (
+      s .pre .1,
+      c .before .before .fill .ensures ∙ ap (λ (at : ℕ). take (view .held) (drop at (tokensOf (s .args .bytes .now)))) (sym (e .0)),
+      e .3,
+      l .inv .1,
+      omega (arith, e .0),
+      e .1,
+    )
 
 enum-known-stepped : tie.Need-enum-known-stepped Inv-loop μ-loop
 enum-known-stepped c = search needs
 
 loop-less : tie.Need-loop-less Inv-loop μ-loop
 loop-less c =
-    let a = c .before .before .before .before in
-    let s = a .before .before .before .before .before .before in
-    let l = a .before .before .before .before .loop in
-    let on =
-    turn-on (s .args .version) (s .args .bytes .now) (s .args .tokens) (s .pre .1) (omega arith) (l .state) (l .inv .1) (a .before .before .if1 .taken) (c .before .stepped .given .0 .0)
-    (sym (a .step-at .ensures) ∙ c .before .stepped .given .1) in
-    omega arith
+    let w = c .before .before .before in
+    let n = w .before .before .before .before .before in
+    let l = n .before .before .before .loop in
+    let s = n .before .before .before .before .before in
+    let g = s .args in
+    let on = subst (Comes (g .version) (tokensOf (g .bytes .now)) (n .view-from .result .until)) (c .before .stepped .given .1) (w .walk-view .ensures) in
+    omega (arith, on .1, n .view-from .ensures .1, n .before .if1 .taken)
 
 loop-again : tie.Need-loop-again Inv-loop μ-loop
 loop-again c =
-    let a = c .before .before .before .before in
-    let s = a .before .before .before .before .before .before in
-    let l = a .before .before .before .before .loop in (
-      omega (arith, a .step-at .kept .1 .1 .1 .1 .0),
-      turn-on (s .args .version) (s .args .bytes .now) (s .args .tokens) (s .pre .1) (omega arith) (l .state) (l .inv .1) (a .before .before .if1 .taken) (c .before .stepped .given .0 .0)
-          (sym (a .step-at .ensures) ∙ c .before .stepped .given .1) .0,
-    )
+    let w = c .before .before .before in
+    let n = w .before .before .before .before .before in
+    let l = n .before .before .before .loop in
+    let s = n .before .before .before .before .before in
+    let g = s .args in
+    let on = subst (Comes (g .version) (tokensOf (g .bytes .now)) (n .view-from .result .until)) (c .before .stepped .given .1) (w .walk-view .ensures) in
+    (omega (arith, w .before .before .before .fill .kept .0, l .inv .0), on .0)
 
 enum-known-stepped-2 : tie.Need-enum-known-stepped-2 Inv-loop μ-loop
 enum-known-stepped-2 c = search needs
@@ -59,24 +93,24 @@ conclude-requires c κs = search needs
 
 returns : tie.Need-returns Inv-loop μ-loop
 returns c =
-    let a = c .before .before .before .before .before in
-    let s = a .before .before .before .before .before .before in
-    let l = a .before .before .before .before .loop in
-    c .conclude .ensures
-    ∙ turn-done (s .args .version) (s .args .bytes .now) (s .args .tokens) (s .pre .1) (omega arith) (l .state) (l .inv .1) (a .before .before .if1 .taken) (c .before .before .stepped2 .given .0 .0)
-    (sym (a .step-at .ensures) ∙ c .before .before .stepped2 .given .1)
+    let w = c .before .before .before .before in
+    let n = w .before .before .before .before .before in
+    let l = n .before .before .before .loop in
+    let s = n .before .before .before .before .before in
+    let g = s .args in
+    c .conclude .ensures ∙ ends-is (g .version) (g .bytes .now) (g .tokens) (s .pre .1) (c .before .before .stepped2 .given .0 .0) (subst (Comes (g .version) (tokensOf (g .bytes .now)) (n .view-from .result .until)) (c .before .before .stepped2 .given .1) (w .walk-view .ensures))
 
 enum-known-stepped-3 : tie.Need-enum-known-stepped-3 Inv-loop μ-loop
 enum-known-stepped-3 c = search needs
 
 returns-2 : tie.Need-returns-2 Inv-loop μ-loop
 returns-2 c =
-    let a = c .before .before .before .before in
-    let s = a .before .before .before .before .before .before in
-    let l = a .before .before .before .before .loop in
-    sym
-    (turn-refused (s .args .version) (s .args .bytes .now) (s .args .tokens) (s .pre .1) (omega arith) (l .state) (l .inv .1) (a .before .before .if1 .taken) (c .before .stepped3 .given .0 .0)
-    (sym (a .step-at .ensures) ∙ c .before .stepped3 .given .1))
+    let w = c .before .before .before in
+    let n = w .before .before .before .before .before in
+    let l = n .before .before .before .loop in
+    let s = n .before .before .before .before .before in
+    let g = s .args in
+    sym (subst (Comes (g .version) (tokensOf (g .bytes .now)) (n .view-from .result .until)) (c .before .stepped3 .given .1) (w .walk-view .ensures))
 
 refused-requires : tie.Need-refused-requires Inv-loop μ-loop
 refused-requires c κs = search needs
@@ -95,8 +129,12 @@ walk-bytes-spec =
     Inv-loop
     μ-loop
     loop-holds
-    slice-aggregate-step-at
-    step-at-requires
+    view-from-requires
+    slice-aggregate-fill
+    fill-requires
+    array-share-prefix-window
+    slice-aggregate-walk-view
+    walk-view-requires
     enum-known-stepped
     loop-less
     loop-again

@@ -5,7 +5,7 @@ use borrow.Author.Needs.{needs}
 use lib.ListN.{length}
 use Rattle.paper.specs.Blocks.{mostOpen}
 use Rattle.checking.proofs.ItemEnds.{tally-small, good-inside, item-passed, item-barred, item-opened, item-deep, item-closer, wrong-inside, item-wrong}
-use Rattle.checking.proofs.BodyEnds.{Reached, reached, item-moves, reached-on, body-stopped, body-broken}
+use Rattle.checking.proofs.BodyEnds.{Reached, reached, item-moves, reached-on, body-stopped, body-broken, leads-on, begins-at, stretch-passed}
 use Rattle.checking.proofs.BlockEnds.{body-within, low, block-broken, block-closed, block-else}
 use borrow.Fn.Kinds.{In}
 use borrow.Fn.PlainCycle.{Measures, is, falls, and}
@@ -20,12 +20,13 @@ use Rattle.checking.proofs.item.Kinds as item-kinds
 use Rattle.checking.proofs.+block+body+item.Lts-item as item-lts
 use Rattle.checking.proofs.close.Reads as close-reads
 use Rattle.checking.proofs.closer_number.Reads as closer-number-reads
-use Rattle.checking.proofs.judge_at.Reads as judge-at-reads
 use Rattle.checking.proofs.loops_in.Reads as loops-in-reads
 use Rattle.checking.proofs.may_stand.Reads as may-stand-reads
 use Rattle.checking.proofs.own_closer.Reads as own-closer-reads
 use Rattle.checking.proofs.refused_item.Reads as refused-item-reads
 use Rattle.checking.proofs.tally.Reads as tally-reads
+use Rattle.instruction.proofs.judge_stretch.Reads as judge-stretch-reads
+use Rattle.instruction.proofs.judged_of.Reads as judged-of-reads
 use Rattle.checking.proofs.+block+body+item.{statement}
 use Rattle.checking.proofs.+block+body+item.Tie.{close}
 
@@ -116,27 +117,50 @@ pub +block+body+item-spec : {M : Type 1} → statement M
     let opening = first .before .before in
     block-broken _ _ _ (opening .before .before .own-closer .ensures) (opening .before .loops-in .ensures) (opening .body .ensures) (first .first2 .given .1)))
     (λ t. body-lts.spec
-    (item-below t, item.Post)
+    (judge-stretch-reads.Asked, judge-stretch-reads.Learnt, item-below t, item.Post)
     (body-at t)
     body.Post
     body-Inv-loop
     body-μ-loop
     (λ c. reached (c .before .pre .1))
-    (λ c κs. let start = c .before .before in (
+    (λ c κs. search needs)
+    (λ c. let stretch = c .before in
+    let start = stretch .before .before .before in
+    let there = stretch-passed (start .pre .1) (stretch .before .loop .inv) (stretch .judge-stretch .ensures .leads) in
+    record { fits = omega (arith, start .good, there .inside, there .few) })
+    (λ c κs. let stretch = c .before in
+    let start = stretch .before .before .before in
+    let there = stretch-passed (start .pre .1) (stretch .before .loop .inv) (stretch .judge-stretch .ensures .leads) in (
       omega (arith, start .pre),
-      record { depths = start .pre .1 .depths; starts = c .loop .inv .inside; few = c .loop .inv .few },
+      (begins-at (start .pre .1) there, stretch .judge-stretch .ensures .is),
     ))
     (λ c. search needs)
-    (λ c. let moves = item-moves (c .before .before .before .before .loop .inv) (c .before .before .before .item .ensures) (c .before .end .given .1) in
-    omega (arith, moves .after, moves .inside))
-    (λ c. reached-on (c .before .before .before .before .loop .inv) (c .before .before .before .item .ensures) (c .before .end .given .1))
+    (λ c. let item = c .before .before .before in
+    let stretch = item .before .before in
+    let start = stretch .before .before .before in
+    let there = stretch-passed (start .pre .1) (stretch .before .loop .inv) (stretch .judge-stretch .ensures .leads) in
+    let moves = item-moves there (item .item .ensures) (c .before .end .given .1) in
+    omega (arith, leads-on (stretch .judge-stretch .ensures .leads), moves .after, moves .inside))
+    (λ c. let item = c .before .before .before in
+    let stretch = item .before .before in
+    let start = stretch .before .before .before in
+    let there = stretch-passed (start .pre .1) (stretch .before .loop .inv) (stretch .judge-stretch .ensures .leads) in
+    reached-on there (item .item .ensures) (c .before .end .given .1))
     (λ c. search needs)
-    (λ c. body-stopped (c .before .before .before .before .loop .inv) (c .before .before .before .item .ensures) (c .before .end2 .given .1))
+    (λ c. let item = c .before .before .before in
+    let stretch = item .before .before in
+    let start = stretch .before .before .before in
+    let there = stretch-passed (start .pre .1) (stretch .before .loop .inv) (stretch .judge-stretch .ensures .leads) in
+    body-stopped there (item .item .ensures) (c .before .end2 .given .1))
     (λ c. search needs)
-    (λ c. body-broken (c .before .before .before .before .loop .inv) (c .before .before .before .item .ensures) (c .before .end3 .given .1)))
+    (λ c. let item = c .before .before .before in
+    let stretch = item .before .before in
+    let start = stretch .before .before .before in
+    let there = stretch-passed (start .pre .1) (stretch .before .loop .inv) (stretch .judge-stretch .ensures .leads) in
+    body-broken there (item .item .ensures) (c .before .end3 .given .1)))
     λ t. item-lts.spec (
-      judge-at-reads.Asked,
-      judge-at-reads.Learnt,
+      judged-of-reads.Asked,
+      judged-of-reads.Learnt,
       may-stand-reads.Asked,
       may-stand-reads.Learnt,
       tally-reads.Asked,
@@ -148,62 +172,62 @@ pub +block+body+item-spec : {M : Type 1} → statement M
     )
     (item-at t)
     item.Post
-    (λ c κs. c .before .pre .1 .starts)
+    (λ c κs. search needs)
     (λ c. search needs)
     (λ c. let good = c .before in
     let start = good .before .before .before .before in
-    let inside = good-inside (start .args .version) (start .pre .1) (good .before .before .judge-at .ensures) (good .judged .given .1) in
+    let inside = good-inside (start .args .version) (start .pre .1) (good .before .before .judged-of .ensures) (good .judged .given .1) in
     record { fits = omega (arith, start .good) })
     (λ c. let good = c .before in
     let start = good .before .before .before .before in
-    let inside = good-inside (start .args .version) (start .pre .1) (good .before .before .judge-at .ensures) (good .judged .given .1) in
+    let inside = good-inside (start .args .version) (start .pre .1) (good .before .before .judged-of .ensures) (good .judged .given .1) in
     record { fits = omega (arith, start .good) })
     (λ c. search needs)
     (λ c κs. search needs)
     (λ c κs. search needs)
     (λ c. let good = c .before .before .before .before .before .before .before in
     let start = good .before .before .before .before in
-    let inside = good-inside (start .args .version) (start .pre .1) (good .before .before .judge-at .ensures) (good .judged .given .1) in
+    let inside = good-inside (start .args .version) (start .pre .1) (good .before .before .judged-of .ensures) (good .judged .given .1) in
     record { fits = omega (arith, start .good, start .pre, tally-small (c .before .before .before .before .class .given .0 .0) (c .tally .ensures)) })
     (λ c. let good = c .before .before .before .before .before .before .before in
     let start = good .before .before .before .before in
-    item-passed (start .args .version) (start .pre .1) (good .before .before .judge-at .ensures) (good .judged .given .1)
+    item-passed (start .args .version) (start .pre .1) (good .before .before .judged-of .ensures) (good .judged .given .1)
     (c .before .before .before .before .class .given .1) (c .before .before .may-stand .ensures) (c .before .if1 .taken) (c .tally .ensures))
     (λ c κs. search needs)
     (λ c. search needs)
     (λ c. let good = c .before .before .before .before .before in
     let start = good .before .before .before .before in
-    let inside = good-inside (start .args .version) (start .pre .1) (good .before .before .judge-at .ensures) (good .judged .given .1) in
+    let inside = good-inside (start .args .version) (start .pre .1) (good .before .before .judged-of .ensures) (good .judged .given .1) in
     record { fits = omega (arith, start .good, start .pre) })
     (λ c κs. let good = c .before .before .before .before .before in
     let start = good .before .before .before .before in
-    let inside = good-inside (start .args .version) (start .pre .1) (good .before .before .judge-at .ensures) (good .judged .given .1) in (
+    let inside = good-inside (start .args .version) (start .pre .1) (good .before .before .judged-of .ensures) (good .judged .given .1) in (
       omega (arith, start .pre),
       record { depths = omega arith; starts = inside; few = omega (arith, start .pre) },
     ))
     (λ c. let good = c .before .before .before .before .before .before in
     let start = good .before .before .before .before in
-    item-opened (start .args .version) (start .pre .1) (good .before .before .judge-at .ensures) (good .judged .given .1)
+    item-opened (start .args .version) (start .pre .1) (good .before .before .judged-of .ensures) (good .judged .given .1)
     (c .before .before .before .class2 .given .1) (c .before .if2 .taken) (c .block .ensures))
     (λ c κs. search needs)
     (λ c. search needs)
     (λ c. search needs)
     (λ c. let wrong = c .before .before in
     let start = wrong .before .before .before .before in
-    let inside = wrong-inside (start .args .version) (start .pre .1) (wrong .before .before .judge-at .ensures) (wrong .judged2 .given .1) in
+    let inside = wrong-inside (start .args .version) (start .pre .1) (wrong .before .before .judged-of .ensures) (wrong .judged2 .given .1) in
     record { fits = omega (arith, start .good) })
     (λ c κs. search needs)
     (λ c. let good = c .before .before .before .before .before .before .before in
     let start = good .before .before .before .before in
-    item-barred (start .args .version) (start .pre .1) (good .before .before .judge-at .ensures) (good .judged .given .1)
+    item-barred (start .args .version) (start .pre .1) (good .before .before .judged-of .ensures) (good .judged .given .1)
     (c .before .before .before .before .class .given .1) (c .before .before .may-stand .ensures) (c .before .if1 .left) (c .refused-item .ensures))
     (λ c. let good = c .before .before .before .before .before .before in
     let start = good .before .before .before .before in
-    item-deep (start .args .version) (start .pre .1) (good .before .before .judge-at .ensures) (good .judged .given .1)
+    item-deep (start .args .version) (start .pre .1) (good .before .before .judged-of .ensures) (good .judged .given .1)
     (c .before .before .before .class2 .given .1) (c .before .if2 .left) (c .refused-item2 .ensures))
     (λ c. let good = c .before .before .before .before in
     let start = good .before .before .before .before in
-    item-closer (start .args .version) (start .pre .1) (good .before .before .judge-at .ensures) (good .judged .given .1) (c .before .class3 .given .1))
+    item-closer (start .args .version) (start .pre .1) (good .before .before .judged-of .ensures) (good .judged .given .1) (c .before .class3 .given .1))
     (λ c. let wrong = c .before .before .before in
     let start = wrong .before .before .before .before in
-    item-wrong (start .args .version) (start .pre .1) (wrong .before .before .judge-at .ensures) (wrong .judged2 .given .1) (c .refused-item3 .ensures))
+    item-wrong (start .args .version) (start .pre .1) (wrong .before .before .judged-of .ensures) (wrong .judged2 .given .1) (c .refused-item3 .ensures))

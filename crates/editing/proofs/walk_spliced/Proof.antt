@@ -1,13 +1,13 @@
-use Prim.Native.Nat.{_+_, _-_, _≤_, _<_}
-use mathlib.Core.Path.{_≡_, refl, sym, _∙_}
+use Prim.Native.Nat.{_-_, _≤_, _<_}
+use mathlib.Core.Path.{_≡_, sym, _∙_}
 use mathlib.Core.Bool.{false}
 use native.Mathlib.Omega.{arith}
 use lib.ListN.{length}
-use Rattle.edit.specs.Edit.{splice, newLength, meetsAtEnd}
-use Rattle.edit.proofs.Prefix.{splice-length}
+use Rattle.edit.specs.Edit.{splice, meetsAtEnd}
+use Rattle.walk.specs.declared.Stepped.{Stepped}
 use Rattle.walk.specs.Stands.{Stands}
 use Rattle.editing.proofs.Prefix.{stands-spliced}
-use Rattle.editing.proofs.Meeting.{both-equal, not-both, turn-on, turn-done, turn-refused, turn-joined, turn-out}
+use Rattle.editing.proofs.Meeting.{Turns, turn-joined, turn-out, turn}
 use borrow.Author.Needs.{needs}
 use Rattle.editing.proofs.walk_spliced.Statement.{statement}
 use Rattle.editing.proofs.walk_spliced.Tie as tie
@@ -21,6 +21,21 @@ Inv-loop version old last run i j end whole window₀ state₀ window state =
 
 abbrev μ-loop : tie.MeasureT-loop
 μ-loop version old last run i j end whole window₀ state₀ window state = whole - state .at
+
+abbrev start : tie.After-step-spliced Inv-loop μ-loop → tie.Start Inv-loop μ-loop
+start a = a .before .before .before .before .before .before .before .before .before .before .before
+
+abbrev turned : tie.After-step-spliced Inv-loop μ-loop → tie.At-loop Inv-loop μ-loop
+turned a = a .before .before .before .before .before .before .before .before
+
+-- what a step of the loop is worth
+turns : (a : tie.After-step-spliced Inv-loop μ-loop) (x : Stepped) → a .step-spliced .result ≡ x →
+    Turns (start a .args .version) (start a .args .old .now) (start a .args .first) (start a .args .last) (start a .args .run .now) (turned a .loop .state) x
+turns a x e =
+    let s = start a in
+    let g = s .args in
+    let l = turned a .loop in
+    turn (g .version) (g .old .now) (g .first) (g .last) (g .run .now) (s .pre .0) (l .state) (l .inv .1) (l .inv .3) (s .pre .2) (a .before .before .before .before .before .before .if1 .taken) (a .before .before .if2 .left) x (sym (a .step-spliced .ensures) ∙ e)
 
 add-end : tie.Need-add-end Inv-loop μ-loop
 add-end c = let b = c .before .before .pre .0 in omega (arith, b .order, b .inside)
@@ -43,9 +58,7 @@ returns c =
     let s = c .before .before .before .before .before .before .before .before .before in
     let g = s .args in
     let l = c .before .before .before .before .before .before .loop in
-    let b = s .pre .0 in
-    let t = both-equal (l .state .at) (g .first .at + length (g .run .now)) (l .state .kinds) (g .last .kinds) (c .if2 .taken) in
-    turn-joined (g .version) (g .old .now) (g .first) (g .last) (g .run .now) b _ (omega (arith, b .order, b .inside)) (l .state) (l .inv .1) (t .0) (t .1)
+    turn-joined (g .version) (g .old .now) (g .first) (g .last) (g .run .now) (s .pre .0) (l .state) (l .inv .1) (c .if2 .taken)
 
 slice-aggregate-step-spliced : tie.Need-slice-aggregate-step-spliced Inv-loop μ-loop
 slice-aggregate-step-spliced c = search needs
@@ -68,27 +81,12 @@ enum-known-stepped : tie.Need-enum-known-stepped Inv-loop μ-loop
 enum-known-stepped c = search needs
 
 loop-less : tie.Need-loop-less Inv-loop μ-loop
-loop-less c =
-    let a = c .before .before .before .before in
-    let s = a .before .before .before .before .before .before .before .before .before .before .before in
-    let g = s .args in
-    let l = a .before .before .before .before .before .before .before .before .loop in
-    let long = splice-length (g .old .now) (g .first .at) (g .last .at) (g .run .now) (omega (arith, s .pre .0 .order, s .pre .0 .inside)) in
-    let on = turn-on (g .version) (g .old .now) (g .first) (g .last) (g .run .now) (s .pre .0) (l .state) (l .inv .1) (omega arith) (omega arith) (l .inv .3)
-    (not-both (l .state .at) (g .first .at + length (g .run .now)) (l .state .kinds) (g .last .kinds) (a .before .before .if2 .left)) (c .before .stepped .given .0 .0)
-    (sym (a .step-spliced .ensures) ∙ c .before .stepped .given .1) in
-    omega (arith, on .1)
+loop-less c = omega (arith, turns (c .before .before .before .before) _ (c .before .stepped .given .1) .1)
 
 loop-again : tie.Need-loop-again Inv-loop μ-loop
 loop-again c =
     let a = c .before .before .before .before in
-    let s = a .before .before .before .before .before .before .before .before .before .before .before in
-    let g = s .args in
-    let l = a .before .before .before .before .before .before .before .before .loop in
-    let long = splice-length (g .old .now) (g .first .at) (g .last .at) (g .run .now) (omega (arith, s .pre .0 .order, s .pre .0 .inside)) in
-    let on = turn-on (g .version) (g .old .now) (g .first) (g .last) (g .run .now) (s .pre .0) (l .state) (l .inv .1) (omega arith) (omega arith) (l .inv .3)
-    (not-both (l .state .at) (g .first .at + length (g .run .now)) (l .state .kinds) (g .last .kinds) (a .before .before .if2 .left)) (c .before .stepped .given .0 .0)
-    (sym (a .step-spliced .ensures) ∙ c .before .stepped .given .1) in
+    let on = turns a _ (c .before .stepped .given .1) in
     (omega (arith, a .step-spliced .kept .1 .1 .1 .1 .1 .1 .0), on .0, omega (arith, on .1), on .2)
 
 enum-known-stepped-2 : tie.Need-enum-known-stepped-2 Inv-loop μ-loop
@@ -98,30 +96,13 @@ conclude-requires : tie.Need-conclude-requires Inv-loop μ-loop
 conclude-requires c κs = search needs
 
 returns-2 : tie.Need-returns-2 Inv-loop μ-loop
-returns-2 c =
-    let a = c .before .before .before .before .before in
-    let s = a .before .before .before .before .before .before .before .before .before .before .before in
-    let g = s .args in
-    let l = a .before .before .before .before .before .before .before .before .loop in
-    let long = splice-length (g .old .now) (g .first .at) (g .last .at) (g .run .now) (omega (arith, s .pre .0 .order, s .pre .0 .inside)) in
-    c .conclude .ensures
-    ∙ turn-done (g .version) (g .old .now) (g .first) (g .last) (g .run .now) (s .pre .0) (l .state) (l .inv .1) (omega arith) (omega arith) (l .inv .3)
-    (not-both (l .state .at) (g .first .at + length (g .run .now)) (l .state .kinds) (g .last .kinds) (a .before .before .if2 .left)) _ (omega (arith, s .pre .0 .order, s .pre .0 .inside)) (c .before .before .stepped2 .given .0 .0)
-    (sym (a .step-spliced .ensures) ∙ c .before .before .stepped2 .given .1)
+returns-2 c = c .conclude .ensures ∙ turns (c .before .before .before .before .before) _ (c .before .before .stepped2 .given .1)
 
 enum-known-stepped-3 : tie.Need-enum-known-stepped-3 Inv-loop μ-loop
 enum-known-stepped-3 c = search needs
 
 returns-3 : tie.Need-returns-3 Inv-loop μ-loop
-returns-3 c =
-    let a = c .before .before .before .before in
-    let s = a .before .before .before .before .before .before .before .before .before .before .before in
-    let g = s .args in
-    let l = a .before .before .before .before .before .before .before .before .loop in
-    let long = splice-length (g .old .now) (g .first .at) (g .last .at) (g .run .now) (omega (arith, s .pre .0 .order, s .pre .0 .inside)) in
-    turn-refused (g .version) (g .old .now) (g .first) (g .last) (g .run .now) (s .pre .0) (l .state) (l .inv .1) (omega arith) (omega arith) (l .inv .3)
-    (not-both (l .state .at) (g .first .at + length (g .run .now)) (l .state .kinds) (g .last .kinds) (a .before .before .if2 .left)) (newLength (length (g .old .now)) (g .first .at) (g .last .at) (length (g .run .now))) refl (c .before .stepped3 .given .0 .0)
-    (sym (a .step-spliced .ensures) ∙ c .before .stepped3 .given .1)
+returns-3 c = turns (c .before .before .before .before) _ (c .before .stepped3 .given .1)
 
 refused-requires : tie.Need-refused-requires Inv-loop μ-loop
 refused-requires c κs = search needs
@@ -131,9 +112,8 @@ returns-4 c =
     let s = c .before .before .before .before .before .before in
     let g = s .args in
     let l = c .before .before .before .loop in
-    let b = s .pre .0 in
     c .refused .ensures
-    ∙ turn-out (g .version) (g .old .now) (g .first) (g .last) (g .run .now) b _ (omega (arith, b .order, b .inside)) (l .state) (l .inv .1) (l .inv .3) (omega arith)
+    ∙ turn-out (g .version) (g .old .now) (g .first) (g .last) (g .run .now) (s .pre .0) (l .state) (l .inv .1) (l .inv .3) (omega arith)
 
 pub walk-spliced-spec : {M : Type 1} → statement M
 walk-spliced-spec =

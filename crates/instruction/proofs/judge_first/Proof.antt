@@ -1,5 +1,5 @@
 use mathlib.Core.Path.{refl, sym, _∙_}
-use Prim.Native.Nat.{_-_}
+use Prim.Native.Nat.{_+_, _-_}
 use native.Mathlib.Omega.{arith}
 use lib.ListN.{length}
 use lib.Seq.{take-all}
@@ -17,7 +17,7 @@ judge-unlisted-requires c κs = search needs
 returns : tie.Need-returns
 returns c =
     let g = c .before .before .before .before .args in
-    rw (judged-unlisted (g .version) (g .first) (g .behind .now) (g .left) (sym (c .before .before .shape-of .ensures) ∙ c .before .if1 .taken)) (c .judge-unlisted .ensures)
+    rw (judged-unlisted (g .version) (g .first) (g .behind .now) (length (g .behind .now) + g .beyond) (sym (c .before .before .shape-of .ensures) ∙ c .before .if1 .taken)) (c .judge-unlisted .ensures)
 
 bits-laid-requires : tie.Need-bits-laid-requires
 bits-laid-requires c κs = search needs
@@ -42,7 +42,7 @@ returns-2 c =
     let g = c .before .before .before .before .before .before .before .args in
     let shape = c .before .before .before .before .before .shape-of .ensures in
     rw (
-      judged-listed (g .version) (g .first) (λ z. c .before .before .before .before .if1 .left (shape ∙ z)) (g .behind .now) (g .left)
+      judged-listed (g .version) (g .first) (λ z. c .before .before .before .before .if1 .left (shape ∙ z)) (g .behind .now) (length (g .behind .now) + g .beyond)
           (rw shape at (sym (c .before .before .before .bits-laid .ensures) ∙ c .before .before .if2 .taken)),
       ← shape,
     )
@@ -52,7 +52,7 @@ returns-3 : tie.Need-returns-3
 returns-3 c =
     let g = c .before .before .before .before .before .args in
     let shape = c .before .before .before .shape-of .ensures in
-    rw (judged-bits (g .version) (g .first) (λ z. c .before .before .if1 .left (shape ∙ z)) (g .behind .now) (g .left)
+    rw (judged-bits (g .version) (g .first) (λ z. c .before .before .if1 .left (shape ∙ z)) (g .behind .now) (length (g .behind .now) + g .beyond)
     (rw shape at (sym (c .before .bits-laid .ensures) ∙ c .if2 .left))) refl
 
 pub judge-first-spec : {M : Type 1} → statement M

@@ -1,13 +1,24 @@
-use mathlib.Core.Path.{refl, sym, _∙_}
-use Prim.Native.Nat.{_<_}
-use lib.ListN.{length}
+use mathlib.Core.Path.{_≡_, sym, _∙_}
 use native.Mathlib.Omega.{arith}
 use borrow.Author.Tests.{le-ltb}
+use Rattle.paper.specs.declared.Judged.{Judged}
 use Rattle.reader.specs.Reading.{readingAt}
-use Rattle.reader.proofs.Steps.{runs-out, told-here, reads, refuses, can-read, next-fits, position-fits}
+use Rattle.reader.proofs.Steps.{Reads, runs-out, reads-judged}
 use borrow.Author.Needs.{needs}
 use Rattle.reader.proofs.read_at.Statement.{statement}
 use Rattle.reader.proofs.read_at.Tie as tie
+
+abbrev start : tie.After-judge → tie.Start
+start a = a .before .before .before .before .before .before .before .before
+
+-- what the reading is where the instruction is judged so
+reads : (a : tie.After-judge) (j : Judged) → a .judge .result ≡ j →
+    Reads (start a .args .version) (start a .args .tokens .now) (start a .args .at) (a .before .before .before .before .read-head .result) (a .before .before .before .claim-of .result) j
+reads a j e =
+    let g = start a .args in
+    let h = a .before .before .before .before .read-head in
+    let k = a .before .before .before .claim-of in
+    reads-judged (g .version) (g .tokens .now) (g .at) (h .result) (k .result) (a .before .before .before .before .before .before .if1 .left) (h .ensures) (k .ensures) (a .before .before .if2 .left) j (sym (a .judge .ensures) ∙ e)
 
 refused-at-requires : tie.Need-refused-at-requires
 refused-at-requires c κs = search needs
@@ -42,30 +53,26 @@ returns-2 c =
     let g = c .before .before .before .before .before .before .before .args in
     let h = c .before .before .before .read-head in
     let k = c .before .before .claim-of in
-    let some : g .at < length (g .tokens .now) = c .before .before .before .before .before .if1 .left in
     c .refused-at2 .ensures
-    ∙ sym (runs-out (g .version) (g .tokens .now) (g .at) some (h .result) (h .ensures) (k .result) (k .ensures) (c .before .if2 .taken))
+    ∙ sym (runs-out (g .version) (g .tokens .now) (g .at) (h .result) (k .result) (c .before .before .before .before .before .if1 .left) (h .ensures) (k .ensures) (c .before .if2 .taken))
 
 add-end : tie.Need-add-end
 add-end c = search needs
 
-mul-judge-first : tie.Need-mul-judge-first
-mul-judge-first c = search needs
+mul-judge : tie.Need-mul-judge
+mul-judge c = search needs
 
-sub-judge-first : tie.Need-sub-judge-first
-sub-judge-first c = search needs
+sub-judge : tie.Need-sub-judge
+sub-judge c = search needs
 
-part-judge-first-start : tie.Need-part-judge-first-start
-part-judge-first-start c = search needs
+part-judge-start : tie.Need-part-judge-start
+part-judge-start c = search needs
 
-part-judge-first-end : tie.Need-part-judge-first-end
-part-judge-first-end c = search needs
+part-judge-end : tie.Need-part-judge-end
+part-judge-end c = search needs
 
-judge-first-requires : tie.Need-judge-first-requires
-judge-first-requires c κs = search needs
-
-judged-of-requires : tie.Need-judged-of-requires
-judged-of-requires c κs = search needs
+judge-requires : tie.Need-judge-requires
+judge-requires c κs = search needs
 
 enum-known-judged : tie.Need-enum-known-judged
 enum-known-judged c = search needs
@@ -83,61 +90,28 @@ part-read-record-end : tie.Need-part-read-record-end
 part-read-record-end c = search needs
 
 read-record-requires : tie.Need-read-record-requires
-read-record-requires c κs =
-    let g = c .before .before .before .before .before .before .before .before .before .before .before .before .before .args in
-    let h = c .before .before .before .before .before .before .before .before .before .read-head in
-    let k = c .before .before .before .before .before .before .before .before .claim-of in
-    let some : g .at < length (g .tokens .now) = c .before .before .before .before .before .before .before .before .before .before .before .if1 .left in
-    can-read (g .version) (g .tokens .now) (g .at) some (h .result) (h .ensures) (k .result) (k .ensures) (c .before .before .before .before .before .before .before .if2 .left) _ refl _ _ (told-here (g .version) (g .tokens .now) (g .at) some (h .result) (h .ensures) (k .result) (k .ensures) (c .before .before .before .before .before .before .before .if2 .left) _ refl _ _ (c .before .before .before .before .before .judge-first .ensures) (c .before .before .before .before .judged-of .ensures) ∙ c .before .before .judged .given .1)
+read-record-requires c κs = reads (c .before .before .before .before) _ (c .before .before .judged .given .1) .1
 
 add-next : tie.Need-add-next
-add-next c =
-    let g = c .before .before .before .before .before .before .before .before .before .before .before .before .before .before .args in
-    let h = c .before .before .before .before .before .before .before .before .before .before .read-head in
-    let k = c .before .before .before .before .before .before .before .before .before .claim-of in
-    let some : g .at < length (g .tokens .now) = c .before .before .before .before .before .before .before .before .before .before .before .before .if1 .left in
-    let next = next-fits (g .version) (g .tokens .now) (g .at) some (h .result) (h .ensures) (k .result) (k .ensures) (c .before .before .before .before .before .before .before .before .if2 .left) _ refl _ _ (told-here (g .version) (g .tokens .now) (g .at) some (h .result) (h .ensures) (k .result) (k .ensures) (c .before .before .before .before .before .before .before .before .if2 .left) _ refl _ _ (c .before .before .before .before .before .before .judge-first .ensures) (c .before .before .before .before .before .judged-of .ensures) ∙ c .before .before .before .judged .given .1) in
-    omega arith
+add-next c = omega (arith, reads (c .before .before .before .before .before) _ (c .before .before .before .judged .given .1) .2)
 
 add-next-2 : tie.Need-add-next-2
-add-next-2 c =
-    let g = c .before .before .before .before .before .before .before .before .before .before .before .before .before .before .args in
-    let h = c .before .before .before .before .before .before .before .before .before .before .read-head in
-    let k = c .before .before .before .before .before .before .before .before .before .claim-of in
-    let some : g .at < length (g .tokens .now) = c .before .before .before .before .before .before .before .before .before .before .before .before .if1 .left in
-    let next = next-fits (g .version) (g .tokens .now) (g .at) some (h .result) (h .ensures) (k .result) (k .ensures) (c .before .before .before .before .before .before .before .before .if2 .left) _ refl _ _ (told-here (g .version) (g .tokens .now) (g .at) some (h .result) (h .ensures) (k .result) (k .ensures) (c .before .before .before .before .before .before .before .before .if2 .left) _ refl _ _ (c .before .before .before .before .before .before .judge-first .ensures) (c .before .before .before .before .before .judged-of .ensures) ∙ c .before .before .before .judged .given .1) in
-    omega arith
+add-next-2 c = omega (arith, reads (c .before .before .before .before .before) _ (c .before .before .before .judged .given .1) .2)
 
 enum-known-judged-2 : tie.Need-enum-known-judged-2
 enum-known-judged-2 c = search needs
 
 add-refused-at : tie.Need-add-refused-at
-add-refused-at c =
-    let g = c .before .before .before .before .before .before .before .before .before .before .before .before .before .args in
-    let h = c .before .before .before .before .before .before .before .before .before .read-head in
-    let k = c .before .before .before .before .before .before .before .before .claim-of in
-    let some : g .at < length (g .tokens .now) = c .before .before .before .before .before .before .before .before .before .before .before .if1 .left in
-    let inside = position-fits (g .version) (g .tokens .now) (g .at) some (h .result) (h .ensures) (k .result) (k .ensures) (c .before .before .before .before .before .before .before .if2 .left) _ refl _ (told-here (g .version) (g .tokens .now) (g .at) some (h .result) (h .ensures) (k .result) (k .ensures) (c .before .before .before .before .before .before .before .if2 .left) _ refl _ _ (c .before .before .before .before .before .judge-first .ensures) (c .before .before .before .before .judged-of .ensures) ∙ c .before .before .judged2 .given .1) in
-    omega arith
+add-refused-at c = omega (arith, reads (c .before .before .before .before) _ (c .before .before .judged2 .given .1) .1)
 
 refused-at-requires-3 : tie.Need-refused-at-requires-3
 refused-at-requires-3 c κs = search needs
 
 returns-3 : tie.Need-returns-3
-returns-3 c =
-    let g = c .before .before .before .before .before .before .before .before .before .before .before .before .before .before .args in
-    let h = c .before .before .before .before .before .before .before .before .before .before .read-head in
-    let k = c .before .before .before .before .before .before .before .before .before .claim-of in
-    let some : g .at < length (g .tokens .now) = c .before .before .before .before .before .before .before .before .before .before .before .before .if1 .left in
-    rw (c .read-record .ensures) (sym (reads (g .version) (g .tokens .now) (g .at) some (h .result) (h .ensures) (k .result) (k .ensures) (c .before .before .before .before .before .before .before .before .if2 .left) _ refl _ _ (told-here (g .version) (g .tokens .now) (g .at) some (h .result) (h .ensures) (k .result) (k .ensures) (c .before .before .before .before .before .before .before .before .if2 .left) _ refl _ _ (c .before .before .before .before .before .before .judge-first .ensures) (c .before .before .before .before .before .judged-of .ensures) ∙ c .before .before .before .judged .given .1)))
+returns-3 c = rw (c .read-record .ensures) (sym (reads (c .before .before .before .before .before) _ (c .before .before .before .judged .given .1) .0))
 
 returns-4 : tie.Need-returns-4
-returns-4 c =
-    let g = c .before .before .before .before .before .before .before .before .before .before .before .before .before .before .args in
-    let h = c .before .before .before .before .before .before .before .before .before .before .read-head in
-    let k = c .before .before .before .before .before .before .before .before .before .claim-of in
-    let some : g .at < length (g .tokens .now) = c .before .before .before .before .before .before .before .before .before .before .before .before .if1 .left in
-    c .refused-at3 .ensures ∙ sym (refuses (g .version) (g .tokens .now) (g .at) some (h .result) (h .ensures) (k .result) (k .ensures) (c .before .before .before .before .before .before .before .before .if2 .left) _ refl _ (told-here (g .version) (g .tokens .now) (g .at) some (h .result) (h .ensures) (k .result) (k .ensures) (c .before .before .before .before .before .before .before .before .if2 .left) _ refl _ _ (c .before .before .before .before .before .before .judge-first .ensures) (c .before .before .before .before .before .judged-of .ensures) ∙ c .before .before .before .judged2 .given .1))
+returns-4 c = c .refused-at3 .ensures ∙ sym (reads (c .before .before .before .before .before) _ (c .before .before .before .judged2 .given .1) .0)
 
 pub read-at-spec : {M : Type 1} → statement M
 read-at-spec =
@@ -154,12 +128,11 @@ read-at-spec =
     refused-at-requires-2
     returns-2
     add-end
-    mul-judge-first
-    sub-judge-first
-    part-judge-first-start
-    part-judge-first-end
-    judge-first-requires
-    judged-of-requires
+    mul-judge
+    sub-judge
+    part-judge-start
+    part-judge-end
+    judge-requires
     enum-known-judged
     mul-read-record
     sub-read-record

@@ -1,0 +1,131 @@
+use Prim.Native.Nat.{_-_, _≤_, _<_}
+use native.Mathlib.Omega.{arith}
+use borrow.Author.Needs.{needs}
+use Rattle.walk.specs.Stands.{Stands}
+use Rattle.bytes.specs.Bytes.{tokensOf}
+use Rattle.bytes.proofs.Turn.{view-there, view-on, view-done, view-refused}
+use Rattle.bytes.proofs.walk_view.Statement.{statement}
+use Rattle.bytes.proofs.walk_view.Tie as tie
+
+abbrev Inv-loop : tie.InvT-loop
+Inv-loop version bytes tokens part view beyond stop state₀ state =
+    Stands version (tokensOf bytes) state × (view .start ≤ state .at) × (state .at < view .until)
+
+abbrev μ-loop : tie.MeasureT-loop
+μ-loop version bytes tokens part view beyond stop state₀ state = view .until - state .at
+
+add-beyond : tie.Need-add-beyond Inv-loop μ-loop
+add-beyond c = omega (arith, c .before .before .before .pre .2 .inside)
+
+sub-beyond : tie.Need-sub-beyond Inv-loop μ-loop
+sub-beyond c = omega (arith, c .before .before .before .pre .2 .inside)
+
+sub-stop : tie.Need-sub-stop Inv-loop μ-loop
+sub-stop c = omega (arith, c .before .before .before .before .pre)
+
+loop-holds : tie.Need-loop-holds Inv-loop μ-loop
+loop-holds c = let s = c .before .before .before .before in (s .pre .3, s .pre .4, s .pre .5)
+
+sub-judge-stretch : tie.Need-sub-judge-stretch Inv-loop μ-loop
+sub-judge-stretch c = omega (arith, c .before .before .loop .inv)
+
+judge-stretch-requires : tie.Need-judge-stretch-requires Inv-loop μ-loop
+judge-stretch-requires c κs = search needs
+
+add-step-told : tie.Need-add-step-told Inv-loop μ-loop
+add-step-told c =
+    let j = c .before .before in
+    let l = j .before .before .before .loop in
+    let s = j .before .before .before .before .before .before .before .before in
+    let g = s .args in
+    omega (arith, view-there (g .version) (g .bytes .now) (g .tokens) (s .pre .0) (omega arith) (g .view) (s .pre .2) (g .part .now) (s .pre .1) (l .state) (l .inv .0) (l .inv .1) (l .inv .2) (j .judge-stretch .result) (j .judge-stretch .ensures) .2, s .pre .2 .inside, s .pre .2 .begins)
+
+add-step-told-2 : tie.Need-add-step-told-2 Inv-loop μ-loop
+add-step-told-2 c =
+    let j = c .before .before .before .before in
+    let l = j .before .before .before .loop in
+    let s = j .before .before .before .before .before .before .before .before in
+    let g = s .args in
+    omega (arith, view-there (g .version) (g .bytes .now) (g .tokens) (s .pre .0) (omega arith) (g .view) (s .pre .2) (g .part .now) (s .pre .1) (l .state) (l .inv .0) (l .inv .1) (l .inv .2) (j .judge-stretch .result) (j .judge-stretch .ensures) .0 .counted, view-there (g .version) (g .bytes .now) (g .tokens) (s .pre .0) (omega arith) (g .view) (s .pre .2) (g .part .now) (s .pre .1) (l .state) (l .inv .0) (l .inv .1) (l .inv .2) (j .judge-stretch .result) (j .judge-stretch .ensures) .2, s .pre .2 .inside, s .pre .2 .begins)
+
+step-told-requires : tie.Need-step-told-requires Inv-loop μ-loop
+step-told-requires c κs = search needs
+
+enum-known-stepped : tie.Need-enum-known-stepped Inv-loop μ-loop
+enum-known-stepped c = search needs
+
+returns : tie.Need-returns Inv-loop μ-loop
+returns c =
+    let t = c .before .before .before .before .before .before in
+    let j = t .before .before .before .before .before in
+    let l = j .before .before .before .loop in
+    let s = j .before .before .before .before .before .before .before .before in
+    let g = s .args in
+    (view-on (g .version) (g .bytes .now) (g .tokens) (s .pre .0) (omega arith) (g .view) (s .pre .2) (g .part .now) (s .pre .1) (l .state) (l .inv .0) (l .inv .1) (l .inv .2) (j .judge-stretch .result) (j .judge-stretch .ensures) (t .step-told .result) (t .step-told .ensures) (c .before .before .before .before .stepped .given .0 .0) (c .before .before .before .before .stepped .given .1) .0, c .if1 .taken)
+
+loop-less : tie.Need-loop-less Inv-loop μ-loop
+loop-less c =
+    let t = c .before .before .before .before .before .before in
+    let j = t .before .before .before .before .before in
+    let l = j .before .before .before .loop in
+    let s = j .before .before .before .before .before .before .before .before in
+    let g = s .args in
+    omega (arith, view-on (g .version) (g .bytes .now) (g .tokens) (s .pre .0) (omega arith) (g .view) (s .pre .2) (g .part .now) (s .pre .1) (l .state) (l .inv .0) (l .inv .1) (l .inv .2) (j .judge-stretch .result) (j .judge-stretch .ensures) (t .step-told .result) (t .step-told .ensures) (c .before .before .before .before .stepped .given .0 .0) (c .before .before .before .before .stepped .given .1) .1, l .inv .2)
+
+loop-again : tie.Need-loop-again Inv-loop μ-loop
+loop-again c =
+    let t = c .before .before .before .before .before .before in
+    let j = t .before .before .before .before .before in
+    let l = j .before .before .before .loop in
+    let s = j .before .before .before .before .before .before .before .before in
+    let g = s .args in
+    let on = view-on (g .version) (g .bytes .now) (g .tokens) (s .pre .0) (omega arith) (g .view) (s .pre .2) (g .part .now) (s .pre .1) (l .state) (l .inv .0) (l .inv .1) (l .inv .2) (j .judge-stretch .result) (j .judge-stretch .ensures) (t .step-told .result) (t .step-told .ensures) (c .before .before .before .before .stepped .given .0 .0) (c .before .before .before .before .stepped .given .1) in
+    (on .0, omega (arith, on .1, l .inv .1), omega (arith, c .if1 .left))
+
+enum-known-stepped-2 : tie.Need-enum-known-stepped-2 Inv-loop μ-loop
+enum-known-stepped-2 c = search needs
+
+returns-2 : tie.Need-returns-2 Inv-loop μ-loop
+returns-2 c =
+    let t = c .before .before .before in
+    let j = t .before .before .before .before .before in
+    let l = j .before .before .before .loop in
+    let s = j .before .before .before .before .before .before .before .before in
+    let g = s .args in
+    view-done (g .version) (g .bytes .now) (g .tokens) (s .pre .0) (omega arith) (g .view) (s .pre .2) (g .part .now) (s .pre .1) (l .state) (l .inv .0) (l .inv .1) (l .inv .2) (j .judge-stretch .result) (j .judge-stretch .ensures) (t .step-told .result) (t .step-told .ensures) (c .before .stepped2 .given .0 .0) (c .before .stepped2 .given .1)
+
+enum-known-stepped-3 : tie.Need-enum-known-stepped-3 Inv-loop μ-loop
+enum-known-stepped-3 c = search needs
+
+returns-3 : tie.Need-returns-3 Inv-loop μ-loop
+returns-3 c =
+    let t = c .before .before .before in
+    let j = t .before .before .before .before .before in
+    let l = j .before .before .before .loop in
+    let s = j .before .before .before .before .before .before .before .before in
+    let g = s .args in
+    view-refused (g .version) (g .bytes .now) (g .tokens) (s .pre .0) (omega arith) (g .view) (s .pre .2) (g .part .now) (s .pre .1) (l .state) (l .inv .0) (l .inv .1) (l .inv .2) (j .judge-stretch .result) (j .judge-stretch .ensures) (t .step-told .result) (t .step-told .ensures) (c .before .stepped3 .given .0 .0) (c .before .stepped3 .given .1)
+
+pub walk-view-spec : {M : Type 1} → statement M
+walk-view-spec =
+    tie.close
+    (tie.spec
+    Inv-loop
+    μ-loop
+    add-beyond
+    sub-beyond
+    sub-stop
+    loop-holds
+    sub-judge-stretch
+    judge-stretch-requires
+    add-step-told
+    add-step-told-2
+    step-told-requires
+    enum-known-stepped
+    returns
+    loop-less
+    loop-again
+    enum-known-stepped-2
+    returns-2
+    enum-known-stepped-3
+    returns-3)

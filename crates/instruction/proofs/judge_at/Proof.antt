@@ -1,0 +1,17 @@
+use mathlib.Core.Path.{ap, _∙_}
+use Rattle.instruction.specs.Stretch.{toldAt}
+use Rattle.instruction.proofs.Stretches.{leads-one}
+use borrow.Author.Needs.{needs}
+use Rattle.instruction.proofs.judge_at.Statement.{statement}
+use Rattle.instruction.proofs.judge_at.Tie as tie
+
+judge-stretch-requires : tie.Need-judge-stretch-requires
+judge-stretch-requires c κs = search needs
+
+returns : tie.Need-returns
+returns c =
+    let g = c .before .before .args in
+    c .judge-stretch .ensures .is ∙ ap (toldAt (g .version) (g .tokens .now) (g .beyond)) (leads-one (c .judge-stretch .ensures .leads))
+
+pub judge-at-spec : {M : Type 1} → statement M
+judge-at-spec = tie.close (tie.spec judge-stretch-requires returns)

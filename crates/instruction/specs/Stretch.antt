@@ -1,0 +1,41 @@
+-- A stretch of plain instructions, and the instruction at its end.
+use Prim.Native.Nat.{ℕ, suc, _+_, _/_, _%_, _<_}
+use mathlib.Core.Path.{_≡_}
+use mathlib.Core.Bool.{Bool, true, false, _&&_}
+use mathlib.Core.List.{List}
+use lib.Dec.{eqb, ltb}
+use lib.ListN.{length, drop, getD}
+use Rattle.paper.specs.Notation.{pick}
+use Rattle.paper.specs.Numbers.{refusal}
+use Rattle.paper.specs.declared.Version.{Version}
+use Rattle.paper.specs.declared.Reason.the-variants.{RunOut as RUN-OUT}
+use Rattle.operands.specs.Numbered.{refusalNumber}
+use Rattle.instruction.specs.declared.Stretch.{Stretch}
+use Rattle.instruction.specs.Numbered.{judgedNumber, judgedIn}
+
+-- what is told of the instruction at a place of these tokens, behind which so many more are there
+unfoldable pub toldAt : Version → List ℕ → ℕ → ℕ → ℕ
+toldAt v tokens beyond at =
+    pick (ltb at (length tokens))
+    (judgedNumber (judgedIn v (getD tokens at 0) (drop (at + 1) tokens) (length (drop (at + 1) tokens) + beyond)))
+    (refusalNumber (refusal RUN-OUT 0))
+
+-- it neither opens nor closes a block, and may stand anywhere: class 1, doubled, below the size
+abbrev pub isPlain : ℕ → Bool
+isPlain told = eqb (told % 32) 2
+
+-- the place behind it
+abbrev pub nextAt : ℕ → ℕ → ℕ
+nextAt at told = at + 1 + told / 32
+
+-- so many plain instructions lead from one place to another, and those behind the first begin before `stop`
+pub data Leads (v : Version) (tokens : List ℕ) (beyond stop start : ℕ) : ℕ → ℕ → Type 0 where
+  here : Leads v tokens beyond stop start start 0
+  past : {at n : ℕ} → Leads v tokens beyond stop start at n → isPlain (toldAt v tokens beyond at) ≡ true →
+      nextAt at (toldAt v tokens beyond at) < stop → Leads v tokens beyond stop start (nextAt at (toldAt v tokens beyond at)) (suc n)
+
+-- they lead to an instruction that is not plain, or behind which the next one does not begin before `stop`
+pub record Stretched (v : Version) (tokens : List ℕ) (start stop beyond : ℕ) (r : Stretch) : Type 0 where
+  pub leads : Leads v tokens beyond stop start (r .at) (r .count)
+  pub is : r .told ≡ toldAt v tokens beyond (r .at)
+  pub ends : (isPlain (r .told) && ltb (nextAt (r .at) (r .told)) stop) ≡ false
