@@ -17,16 +17,16 @@ use Rattle.paper.specs.declared.Reason.the-variants.{RunOut as RUN-OUT}
 use Rattle.paper.specs.declared.Refusal.{Refusal}
 use Rattle.paper.specs.declared.Verdict.the-variants.{Refused as no-verdict}
 use Rattle.instruction.specs.Numbered.{judgedNumber, judgedFrom}
-use Rattle.instruction.specs.Stretch.{toldAt, nextAt, Leads, here, past, Stretched}
+use Rattle.instruction.specs.Stretch.{toldAt, Stretched}
 use Rattle.instruction.specs.declared.Stretch.{Stretch}
-use Rattle.instruction.proofs.Stretches.{told-far, told-end, plain-judged}
+use Rattle.instruction.proofs.Stretches.{told-far, told-end}
 use Rattle.walk.specs.declared.State.{State}
 use Rattle.walk.specs.declared.Stepped.{Stepped}
 use Rattle.walk.specs.declared.Stepped.the-variants.{On, Done, Refused}
 use Rattle.walk.specs.Steps.{stateOf, onJudged}
 use Rattle.walk.specs.Stands.{Stands, Ends, stepAt}
-use Rattle.walk.proofs.Telling.{told-moves}
-use Rattle.walk.proofs.OnStream.{stands-plain, step-on, step-done, step-refused, ends-accepted, ends-tail, stands-out}
+use Rattle.walk.proofs.Stretching.{stretch-passed, stretch-steps}
+use Rattle.walk.proofs.OnStream.{step-on, step-done, step-refused, ends-accepted, ends-tail, stands-out}
 use Rattle.bytes.specs.declared.View.{View}
 use Rattle.bytes.specs.Bytes.{tokensOf, endsAt}
 use Rattle.bytes.specs.Views.{Within, held}
@@ -63,61 +63,35 @@ module _ (v : Version) (bytes : List ℕ) (tokens : ℕ) (whole : length bytes �
         (within .enough))
 
     module _ (state : State) (stands : Stands v (tokensOf bytes) state) (after : view .start ≤ state .at) (before : state .at < view .until) where
-      abbrev There : ℕ → ℕ → Type 0
-      There q n =
-          Stands v (tokensOf bytes) (stateOf (view .start + q) (state .count + n) (state .kinds)) × (state .at ≤ view .start + q) × (view .start + q < view .until)
+      -- the walk stands at the end of a stretch of the part, and steps over the instruction there
+      module _ (r : Stretch) (stretched : Stretched v part (state .at - view .start) (view .until - view .start) (tokens - (view .start + view .held)) r) where
+        long : length (tokensOf bytes) ≡ tokens
+        long = tokens-length bytes tokens whole
 
-      -- the walk stands behind each plain instruction of a stretch
-      stretch-stands : {q n : ℕ} → Leads v part (tokens - (view .start + view .held)) (view .until - view .start) (state .at - view .start) q n → There q n
-      stretch-stands here =
-          let at : view .start + (state .at - view .start) ≡ state .at = omega arith in
-          rw (at, add-zero (state .count)) (stands, omega arith, before)
-      stretch-stands (past {at} {n} l plain less) =
-          let there = stretch-stands l in
-          let told = toldAt v part (tokens - (view .start + view .held)) at in
-          let place : view .start + at + suc (told / 32) ≡ view .start + nextAt at told = omega arith in
-          let more : suc (state .count + n) ≡ state .count + suc n = omega arith in
-          let long = tokens-length bytes tokens whole in
-          let inside : view .start + at < length (tokensOf bytes) = omega (arith, there .2, within .inside, within .begins) in
-          let good = plain-judged (judged v (drop (view .start + at) (tokensOf bytes))) told (told-there at (omega (arith, there .2))) plain in (
-            rw (← place, ← more)
-                (stands-plain v (tokensOf bytes) (stateOf (view .start + at) (state .count + n) (state .kinds)) (there .0) inside (omega arith) (told / 32)
-                good),
-            omega (arith, there .1),
-            omega arith,
-          )
+        pub view-there : Stands v (tokensOf bytes) (stateOf (view .start + r .at) (state .count + r .count) (state .kinds)) × (state .at - view .start ≤ r .at) × (r .at < view .until - view .start)
+        view-there =
+            stretch-passed v (tokensOf bytes) part (tokens - (view .start + view .held)) (view .until - view .start) (λ q. view .start + q) (λ q k. omega arith)
+            (λ q h. omega (arith, within .inside, within .begins, long)) told-there (omega (arith, long)) state stands (state .at - view .start) (omega arith) (omega arith) r stretched
 
-      -- and steps over the instruction at its end
-      module _ (r : Stretch) (is-stretch : Stretched v part (state .at - view .start) (view .until - view .start) (tokens - (view .start + view .held)) r) where
-        pub view-there : There (r .at) (r .count)
-        view-there = stretch-stands (is-stretch .leads)
+        view-inside : view .start + r .at < length (tokensOf bytes)
+        view-inside = omega (arith, view-there .2, within .inside, within .begins, long)
 
-        module _ (x : Stepped) (stepped : x ≡ onJudged (judgedFrom (r .told)) (stateOf (view .start + r .at) (state .count + r .count) (state .kinds))) where
-          steps : x ≡ stepAt v (tokensOf bytes) (stateOf (view .start + r .at) (state .count + r .count) (state .kinds))
-          unfolding stepAt
+        module _ (x : Stepped) (e : x ≡ onJudged (judgedFrom (r .told)) (stateOf (view .start + r .at) (state .count + r .count) (state .kinds))) where
+          steps : stepAt v (tokensOf bytes) (stateOf (view .start + r .at) (state .count + r .count) (state .kinds)) ≡ x
           steps =
-              stepped
-              ∙ told-moves (stateOf (view .start + r .at) (state .count + r .count) (state .kinds)) (r .told)
-              (judged v (drop (view .start + r .at) (tokensOf bytes))) (is-stretch .is ∙ told-there (r .at) (omega (arith, view-there .2)))
-
-          inside : (view .start + r .at < length (tokensOf bytes)) × (length (tokensOf bytes) < 2 ^ 64)
-          inside =
-              let long = tokens-length bytes tokens whole in
-              (omega (arith, view-there .2, within .inside, within .begins), omega arith)
+              stretch-steps v (tokensOf bytes) part (tokens - (view .start + view .held)) (view .until - view .start) (λ q. view .start + q) (λ q k. omega arith)
+              (λ q h. omega (arith, within .inside, within .begins, long)) told-there (omega (arith, long)) state stands (state .at - view .start) (omega arith) (omega arith) r stretched
+              x e
 
           pub view-on : (next : State) → x ≡ On next → Stands v (tokensOf bytes) next × (state .at < next .at)
-          view-on next e =
-              let on =
-              step-on v (tokensOf bytes) (stateOf (view .start + r .at) (state .count + r .count) (state .kinds)) (view-there .0) (inside .0) (inside .1) next
-              (sym steps ∙ e) in
+          view-on next f =
+              let on = step-on v (tokensOf bytes) (stateOf (view .start + r .at) (state .count + r .count) (state .kinds)) (view-there .0) view-inside (omega (arith, long)) next (steps ∙ f) in
               (on .0, omega (arith, on .1, view-there .1))
 
           pub view-done : (next : State) → x ≡ Done next → Ends v (tokensOf bytes) next
-          view-done next e =
-              step-done v (tokensOf bytes) (stateOf (view .start + r .at) (state .count + r .count) (state .kinds)) (view-there .0) (inside .0) (inside .1) next
-              (sym steps ∙ e)
+          view-done next f =
+              step-done v (tokensOf bytes) (stateOf (view .start + r .at) (state .count + r .count) (state .kinds)) (view-there .0) view-inside (omega (arith, long)) next (steps ∙ f)
 
           pub view-refused : (f : Refusal) → x ≡ Refused f → walked v (tokensOf bytes) ≡ no-verdict f
-          view-refused f e =
-              step-refused v (tokensOf bytes) (stateOf (view .start + r .at) (state .count + r .count) (state .kinds)) (view-there .0) (inside .0) (inside .1) f
-              (sym steps ∙ e)
+          view-refused f g =
+              step-refused v (tokensOf bytes) (stateOf (view .start + r .at) (state .count + r .count) (state .kinds)) (view-there .0) view-inside (omega (arith, long)) f (steps ∙ g)

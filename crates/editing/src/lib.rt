@@ -43,7 +43,13 @@ fn walk_to(version: Version, tokens: &[u32], from: State, target: usize) -> Foun
 {
     let mut state = from;
     while state.at < target {
-        let stepped = walk::step_in(version, state, tokens, state.at, 0);
+        let stretch = instruction::judge_stretch(version, tokens, state.at, target, 0);
+        let stepped = walk::step_told(
+            stretch.at,
+            state.count + stretch.count,
+            state.kinds,
+            stretch.told,
+        );
         match stepped {
             Stepped::On(next) => {
                 if target < next.at {

@@ -2,3 +2,4 @@ pub mod OpenBlocks
 pub mod Bounds
 pub mod OnStream
 pub mod Telling
+pub mod Stretching
