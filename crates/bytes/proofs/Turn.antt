@@ -16,10 +16,10 @@ use Rattle.paper.specs.declared.Version.{Version}
 use Rattle.paper.specs.declared.Reason.the-variants.{RunOut as RUN-OUT}
 use Rattle.paper.specs.declared.Refusal.{Refusal}
 use Rattle.paper.specs.declared.Verdict.the-variants.{Refused as no-verdict}
-use Rattle.instruction.specs.Numbered.{judgedNumber, judgedFrom}
-use Rattle.instruction.specs.Stretch.{toldAt, Stretched}
-use Rattle.instruction.specs.declared.Stretch.{Stretch}
-use Rattle.instruction.proofs.Stretches.{told-far, told-end}
+use Rattle.told.specs.Numbered.{judgedNumber, judgedFrom}
+use Rattle.stretches.specs.Stretch.{toldAt, Stretched}
+use Rattle.stretches.specs.declared.Stretch.{Stretch}
+use Rattle.stretches.proofs.Stretches.{told-far, told-end}
 use Rattle.walk.specs.declared.State.{State}
 use Rattle.walk.specs.declared.Stepped.{Stepped}
 use Rattle.walk.specs.declared.Stepped.the-variants.{On, Done, Refused}

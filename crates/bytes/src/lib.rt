@@ -113,13 +113,7 @@ fn walk_view(
     let stop = view.until - view.start;
     let mut state = from;
     loop {
-        let stretch = instruction::judge_stretch(
-            version,
-            part,
-            state.at - view.start,
-            stop,
-            beyond,
-        );
+        let stretch = stretches::judge_stretch(version, part, state.at - view.start, stop, beyond);
         let stepped = walk::step_told(
             view.start + stretch.at,
             state.count + stretch.count,

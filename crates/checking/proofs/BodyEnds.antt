@@ -13,8 +13,8 @@ use Rattle.paper.specs.declared.Closer.{Closer}
 use Rattle.paper.specs.declared.Refusal.{Refusal}
 use Rattle.blocks.specs.Descent.{onItem, bodyOf}
 use Rattle.blocks.proofs.Unfold.{body-out, body-wrong, body-then}
-use Rattle.instruction.specs.Stretch.{toldAt, isPlain, nextAt, Leads, here, past}
-use Rattle.instruction.proofs.Stretches.{plain-from}
+use Rattle.stretches.specs.Stretch.{toldAt, isPlain, nextAt, Leads, here, past}
+use Rattle.stretches.proofs.Stretches.{plain-from}
 use Rattle.checking.specs.declared.BodyEnd.the-variants.{Stopped, Broken}
 use Rattle.checking.specs.declared.ItemEnd.{ItemEnd}
 use Rattle.checking.specs.declared.ItemEnd.the-variants.{Passed, Closer as Closed, Refused}

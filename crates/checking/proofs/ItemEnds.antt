@@ -27,10 +27,10 @@ use Rattle.blocks.specs.Descent
 use Rattle.blocks.specs.Descent.{refused, itemOf, blockOf}
 use Rattle.blocks.proofs.Cutting.{cut-none, cut-at}
 use Rattle.blocks.proofs.Unfold.{item-one, item-opens, item-closes}
-use Rattle.instruction.specs.Numbered.{judgedFrom}
-use Rattle.instruction.specs.Stretch.{toldAt}
-use Rattle.instruction.proofs.Numbers.{judged-back}
-use Rattle.instruction.proofs.Stretches.{told-whole}
+use Rattle.told.specs.Numbered.{judgedFrom}
+use Rattle.stretches.specs.Stretch.{toldAt}
+use Rattle.told.proofs.Numbers.{judged-back}
+use Rattle.stretches.proofs.Stretches.{told-whole}
 use Rattle.checking.specs.declared.ItemEnd.{ItemEnd}
 use Rattle.checking.specs.declared.ItemEnd.the-variants.{Passed, Closer as Closed, Refused}
 use Rattle.checking.specs.Ends.{itemAt, Begins, Onward, ItemIs, BlockIs, tallyOf}

@@ -6,7 +6,7 @@ ghost use Rattle.paper.specs.Numbers.{refusal, told};
 ghost use Rattle.paper.specs.Blocks.{stands, loopsIn, closerOf};
 ghost use Rattle.paper.specs.Walk.{closerNumber};
 ghost use Rattle.paper.specs.Stream.{walked, checked};
-ghost use Rattle.instruction.specs.Stretch.{toldAt};
+ghost use Rattle.stretches.specs.Stretch.{toldAt};
 ghost use Rattle.checking.specs.Ends.{Begins, BodyIs, ItemIs, BlockIs, Low, tallyOf, lastEnd, ending};
 use paper::Class;
 use paper::Closer;
@@ -153,7 +153,7 @@ fn body(
     let mut place = at;
     let mut counted = count;
     loop {
-        let stretch = instruction::judge_stretch(version, tokens, place, tokens.len(), 0);
+        let stretch = stretches::judge_stretch(version, tokens, place, tokens.len(), 0);
         let here = stretch.at;
         let more = counted + stretch.count;
         let end = item(version, tokens, here, more, depth, in_loop, stretch.told);
@@ -185,7 +185,7 @@ fn item(
     requires { ⌜ Begins (now tokens) depth at count × (told ≡ toldAt version (now tokens) 0 at) ⌝ }
     ensures { λ r. ⌜ ItemIs version (now (tokens .entry)) depth in_loop at count r ⌝ }
 {
-    let judged = instruction::judged_of(told);
+    let judged = told::judged_of(told);
     match judged {
         Judged::Good(size, class) => {
             let next = at + 1 + size;

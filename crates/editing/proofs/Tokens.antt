@@ -12,8 +12,8 @@ use lib.Seq.{take-suc, take-suc-set, take-all, take-append-le, drop-append-add, 
 use borrow.Author.Tests.{leb-true, leb-false}
 use Rattle.paper.specs.Instruction.{judged}
 use Rattle.paper.specs.declared.Version.{Version}
-use Rattle.instruction.specs.Numbered.{judgedFrom}
-use Rattle.instruction.specs.Stretch.{toldAt}
+use Rattle.told.specs.Numbered.{judgedFrom}
+use Rattle.stretches.specs.Stretch.{toldAt}
 use Rattle.edit.specs.Edit.{splice}
 use Rattle.edit.proofs.Prefix.{splice-length}
 use Rattle.walk.specs.declared.State.{State}

@@ -43,7 +43,7 @@ fn walk_to(version: Version, tokens: &[u32], from: State, target: usize) -> Foun
 {
     let mut state = from;
     while state.at < target {
-        let stretch = instruction::judge_stretch(version, tokens, state.at, target, 0);
+        let stretch = stretches::judge_stretch(version, tokens, state.at, target, 0);
         let stepped = walk::step_told(
             stretch.at,
             state.count + stretch.count,

@@ -37,7 +37,7 @@ use Rattle.instruction_token.specs.declared.Head.the-variants.{Refused, End, Co
 use Rattle.instruction_token.specs.Encoded.{encoded, classIn, bitsBy, placesBy, headBy}
 use Rattle.instruction_token.proofs.Heads.{head-comment, head-end, head-other}
 use Rattle.instruction.specs.Claimed.{listedIn}
-use Rattle.instruction.specs.Numbered.{roomFor, judgedWith, judgedIn, unlistedIn}
+use Rattle.instruction.specs.Shown.{roomFor, judgedWith, judgedIn, unlistedIn}
 use Rattle.instruction.proofs.Claimed.{judged-some}
 
 -- a DCL is refused at one of its three tokens

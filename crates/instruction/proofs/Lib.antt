@@ -1,4 +1,3 @@
 pub mod Numbers
 pub mod Claimed
 pub mod Judging
-pub mod Stretches

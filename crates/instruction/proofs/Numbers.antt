@@ -1,75 +1,17 @@
--- What a number of specs/Numbered.antt tells, told back.
-use mathlib.Core.Path.{_≡_, refl, sym}
-use Prim.Native.Nat.{ℕ, _+_, _*_, _/_, _%_}
+-- What is told of an instruction's operands, told of the instruction.
+use mathlib.Core.Path.{_≡_, refl, sym, _∙_}
+use mathlib.Core.Bool.{Bool, true, false}
+use Prim.Native.Nat.{ℕ, _+_, _*_, _-_, _<_}
 use native.Mathlib.Omega.{arith}
-use Rattle.paper.specs.Numbers.{numberOf}
+use lib.Dec.{leb}
+use borrow.Author.Tests.{le-leb, lt-leb, leb-true, leb-false}
 use Rattle.paper.specs.Instruction.{onOperands}
-use Rattle.paper.specs.declared.Reason.{Reason}
-use Rattle.paper.specs.declared.Reason.the-variants.{Length, Version, Opcode, Bits, RunOut, Size, Operand, Register, Block, Depth, Tail, Place, Room, Record}
-use Rattle.paper.specs.declared.Single.the-variants.{Comment, Plain, Break, Label, Return}
-use Rattle.paper.specs.declared.Opener.the-variants.{If, Loop, Rep}
-use Rattle.paper.specs.declared.Closer.the-variants.{Else, EndIf, EndLoop, EndRep, End}
 use Rattle.paper.specs.declared.Class.{Class}
-use Rattle.paper.specs.declared.Class.the-variants.{One, Opens, Closes}
 use Rattle.paper.specs.declared.Operands.{Operands}
 use Rattle.paper.specs.declared.Operands.the-variants.{Fit, Refused as unfit}
-use Rattle.paper.specs.declared.Judged.{Judged}
-use Rattle.paper.specs.declared.Judged.the-variants.{Good, Refused}
 use Rattle.opcodes.specs.Classes.{classNumber}
-use Rattle.opcodes.proofs.Laws.{class-few}
+use Rattle.told.specs.Numbered.{judgedNumber}
 use Rattle.operands.specs.Numbered.{operandsNumber}
-use Rattle.operands.proofs.Numbers.{number-few}
-use Rattle.instruction.specs.Numbered.{classBy, reasonBy, judgedNumber, judgedFrom}
-
-class-back : (c : Class) → classBy (classNumber c) ≡ c
-class-back (One Comment) = refl
-class-back (One Plain) = refl
-class-back (One Break) = refl
-class-back (One Label) = refl
-class-back (One Return) = refl
-class-back (Opens If) = refl
-class-back (Opens Loop) = refl
-class-back (Opens Rep) = refl
-class-back (Closes Else) = refl
-class-back (Closes EndIf) = refl
-class-back (Closes EndLoop) = refl
-class-back (Closes EndRep) = refl
-class-back (Closes End) = refl
-
-reason-back : (r : Reason) → reasonBy (numberOf r) ≡ r
-reason-back Length = refl
-reason-back Version = refl
-reason-back Opcode = refl
-reason-back Bits = refl
-reason-back RunOut = refl
-reason-back Size = refl
-reason-back Operand = refl
-reason-back Register = refl
-reason-back Block = refl
-reason-back Depth = refl
-reason-back Tail = refl
-reason-back Place = refl
-reason-back Room = refl
-reason-back Record = refl
-
-pub judged-back : (j : Judged) → judgedFrom (judgedNumber j) ≡ j
-unfolding judgedFrom
-judged-back (Good size class) =
-    let few = class-few class in
-    let k = classNumber class in
-    let halved : (32 * size + 2 * k) / 2 ≡ 16 * size + k = omega arith in
-    let even : (32 * size + 2 * k) % 2 ≡ 0 = omega arith in
-    let takes : (32 * size + 2 * k) / 32 ≡ size = omega arith in
-    let kind : (32 * size + 2 * k) / 2 % 16 ≡ k = rw halved (omega arith) in
-    rw (even, takes, kind, class-back class) refl
-judged-back (Refused r) =
-    let few = number-few (r .reason) in
-    let k = numberOf (r .reason) in
-    let halved : (32 * (r .position) + (2 * k + 1)) / 2 ≡ 16 * (r .position) + k = omega arith in
-    let odd : (32 * (r .position) + (2 * k + 1)) % 2 ≡ 1 = omega arith in
-    let place : (32 * (r .position) + (2 * k + 1)) / 32 ≡ r .position = omega arith in
-    let why : (32 * (r .position) + (2 * k + 1)) / 2 % 16 ≡ k = rw halved (omega arith) in
-    rw (odd, place, why, reason-back (r .reason)) refl
 
 -- operands of which 0 is told take an instruction's tokens
 pub operands-number : (o : Operands) (told size : ℕ) (class : Class) → told ≡ operandsNumber o → told ≡ 0 →
@@ -81,3 +23,11 @@ pub operands-refused-number : (o : Operands) (told size : ℕ) (class : Class) �
     judgedNumber (onOperands o size class) ≡ told
 operands-refused-number Fit told size class e some = absurd (some e)
 operands-refused-number (unfit r) told size class e some = sym e
+
+-- so many tokens are there
+pub there-less : (length shown beyond : ℕ) → shown < length → leb (length - shown) beyond ≡ leb length (shown + beyond)
+there-less length shown beyond h = by (leb (length - shown) beyond) refl
+  where
+    by : (b : Bool) → leb (length - shown) beyond ≡ b → leb (length - shown) beyond ≡ leb length (shown + beyond)
+    by true e = e ∙ sym (le-leb length (shown + beyond) (omega (arith, leb-true (length - shown) beyond e)))
+    by false e = e ∙ sym (lt-leb length (shown + beyond) (omega (arith, leb-false (length - shown) beyond e)))

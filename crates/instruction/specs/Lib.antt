@@ -1,4 +1,3 @@
--- What is told of an instruction, as the code hands it on.
+-- An instruction by what it claims, and by what is shown of it.
 pub mod Claimed
-pub mod Numbered
-pub mod Stretch
+pub mod Shown

@@ -15,23 +15,9 @@ use Rattle.paper.specs.declared.Token.{Token}
 use Rattle.paper.specs.declared.Token.the-variants.{Good as good, Bad as bad}
 use Rattle.paper.specs.declared.Taken.{Taken}
 use Rattle.paper.specs.declared.Taken.the-variants.{Took, Refused as not-taken}
-use Rattle.operands.specs.Numbered.{refusalNumber, takenNumber}
-
-pub number-few : (r : Reason) → numberOf r < 16
-number-few Length = lit< tt
-number-few Version = lit< tt
-number-few Opcode = lit< tt
-number-few Bits = lit< tt
-number-few RunOut = lit< tt
-number-few Size = lit< tt
-number-few Operand = lit< tt
-number-few Register = lit< tt
-number-few Block = lit< tt
-number-few Depth = lit< tt
-number-few Tail = lit< tt
-number-few Place = lit< tt
-number-few Room = lit< tt
-number-few Record = lit< tt
+use Rattle.told.specs.Numbered.{refusalNumber}
+use Rattle.told.proofs.Numbers.{number-few}
+use Rattle.operands.specs.Numbered.{takenNumber}
 
 pub token-few : (t : Token) → toldToken t < 16
 token-few good = lit< tt

@@ -47,7 +47,7 @@ fn read_at(version: Version, tokens: &[u32], at: usize) -> Reading
         return refused_at(Reason::RunOut, at);
     }
     let end = from + claim;
-    let judged = instruction::judge(version, &tokens[at..]);
+    let judged = stretches::judge(version, &tokens[at..]);
     match judged {
         Judged::Good(size, _) => {
             let instruction = records::read_record(head, first, &tokens[from..end]);

@@ -7,10 +7,10 @@ use native.Mathlib.Omega.{arith}
 use lib.ListN.{length, drop}
 use Rattle.paper.specs.Instruction.{judged}
 use Rattle.paper.specs.declared.Version.{Version}
-use Rattle.instruction.specs.Numbered.{judgedNumber, judgedFrom}
-use Rattle.instruction.specs.Stretch.{toldAt, nextAt, Leads, here, past, Stretched}
-use Rattle.instruction.specs.declared.Stretch.{Stretch}
-use Rattle.instruction.proofs.Stretches.{plain-judged}
+use Rattle.told.specs.Numbered.{judgedNumber, judgedFrom}
+use Rattle.stretches.specs.Stretch.{toldAt, nextAt, Leads, here, past, Stretched}
+use Rattle.stretches.specs.declared.Stretch.{Stretch}
+use Rattle.stretches.proofs.Stretches.{plain-judged}
 use Rattle.walk.specs.declared.State.{State}
 use Rattle.walk.specs.declared.Stepped.{Stepped}
 use Rattle.walk.specs.Steps.{stateOf, onJudged}

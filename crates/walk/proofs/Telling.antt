@@ -9,10 +9,10 @@ use Rattle.paper.specs.declared.Version.{Version}
 use Rattle.paper.specs.declared.Class.the-variants.{One}
 use Rattle.paper.specs.declared.Single.the-variants.{Plain}
 use Rattle.paper.specs.declared.Judged.{Judged}
-use Rattle.instruction.specs.Numbered.{judgedNumber, judgedFrom}
-use Rattle.instruction.specs.Stretch.{toldAt}
-use Rattle.instruction.proofs.Numbers.{judged-back}
-use Rattle.instruction.proofs.Stretches.{told-whole, told-far, told-end, plain-from}
+use Rattle.told.specs.Numbered.{judgedNumber, judgedFrom}
+use Rattle.stretches.specs.Stretch.{toldAt}
+use Rattle.told.proofs.Numbers.{judged-back}
+use Rattle.stretches.proofs.Stretches.{told-whole, told-far, told-end, plain-from}
 use Rattle.walk.specs.declared.State.{State}
 use Rattle.walk.specs.declared.Stepped.the-variants.{On}
 use Rattle.walk.specs.Steps.{behindOf, onJudged}

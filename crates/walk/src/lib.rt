@@ -6,8 +6,8 @@ ghost use Rattle.paper.specs.Numbers.{refusal};
 ghost use Rattle.paper.specs.Stream.{counts};
 ghost use Rattle.paper.specs.declared.Class.the-variants.{One};
 ghost use Rattle.paper.specs.declared.Single.the-variants.{Plain};
-ghost use Rattle.instruction.specs.Numbered.{judgedFrom};
-ghost use Rattle.instruction.specs.Stretch.{toldAt};
+ghost use Rattle.told.specs.Numbered.{judgedFrom};
+ghost use Rattle.stretches.specs.Stretch.{toldAt};
 ghost use Rattle.walk.specs.Kinds.{inLoopBy, allowedBy, standsBy, opensBy, closesBy, nextBy};
 ghost use Rattle.walk.specs.Steps.{wrapped, stateOf, behindOf, onNextBy, onJudged};
 ghost use Rattle.walk.specs.declared.Stepped.the-variants.{On};
@@ -204,7 +204,7 @@ fn moved(at: usize, count: usize, kinds: u64, told: u64) -> Stepped
     ensures { λ r. ⌜ r ≡ onJudged (judgedFrom told) (stateOf at count kinds) ⌝ }
 {
     let state = State { at, count, kinds };
-    let judged = instruction::judged_of(told);
+    let judged = told::judged_of(told);
     match judged {
         Judged::Good(size, class) => nested(state, size, class),
         Judged::Refused(refusal) => {
@@ -231,6 +231,6 @@ pub fn step_told(at: usize, count: usize, kinds: u64, told: u64) -> Stepped
 pub fn step_in(version: Version, state: State, tokens: &[u32], at: usize, beyond: usize) -> Stepped
     ensures { λ r. ⌜ r ≡ onJudged (judgedFrom (toldAt version (now (tokens .entry)) beyond at)) state ⌝ }
 {
-    let told = instruction::judge_at(version, tokens, at, beyond);
+    let told = stretches::judge_at(version, tokens, at, beyond);
     step_told(state.at, state.count, state.kinds, told)
 }

@@ -25,8 +25,8 @@ use Rattle.checking.proofs.may_stand.Reads as may-stand-reads
 use Rattle.checking.proofs.own_closer.Reads as own-closer-reads
 use Rattle.checking.proofs.refused_item.Reads as refused-item-reads
 use Rattle.checking.proofs.tally.Reads as tally-reads
-use Rattle.instruction.proofs.judge_stretch.Reads as judge-stretch-reads
-use Rattle.instruction.proofs.judged_of.Reads as judged-of-reads
+use Rattle.stretches.proofs.judge_stretch.Reads as judge-stretch-reads
+use Rattle.told.proofs.judged_of.Reads as judged-of-reads
 use Rattle.checking.proofs.+block+body+item.{statement}
 use Rattle.checking.proofs.+block+body+item.Tie.{close}
 

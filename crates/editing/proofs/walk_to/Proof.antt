@@ -2,7 +2,7 @@ use Prim.Native.Nat.{_+_, _-_, _^_, _≤_, _<_}
 use mathlib.Core.Path.{_≡_, refl, _∙_}
 use native.Mathlib.Omega.{arith}
 use lib.ListN.{length}
-use Rattle.instruction.proofs.Stretches.{told-whole}
+use Rattle.stretches.proofs.Stretches.{told-whole}
 use Rattle.walk.specs.declared.State.{State}
 use Rattle.walk.specs.Steps.{stateOf}
 use Rattle.walk.specs.Stands.{Stands, stepAt}

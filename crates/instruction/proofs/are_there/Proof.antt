@@ -2,7 +2,7 @@ use Prim.Native.Nat.{_+_}
 use mathlib.Core.Path.{sym}
 use native.Mathlib.Omega.{arith}
 use borrow.Author.Tests.{le-leb}
-use Rattle.instruction.proofs.Stretches.{there-less}
+use Rattle.instruction.proofs.Numbers.{there-less}
 use borrow.Author.Needs.{needs}
 use Rattle.instruction.proofs.are_there.Statement.{statement}
 use Rattle.instruction.proofs.are_there.Tie as tie

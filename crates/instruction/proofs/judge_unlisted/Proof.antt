@@ -1,7 +1,7 @@
 use mathlib.Core.Path.{sym, _∙_}
 use native.Mathlib.Omega.{arith}
 use borrow.Author.Tests.{eq-eqb, ne-eqb}
-use Rattle.instruction.specs.Numbered.{unlistedIn}
+use Rattle.instruction.specs.Shown.{unlistedIn}
 use borrow.Author.Needs.{needs}
 use Rattle.instruction.proofs.judge_unlisted.Statement.{statement}
 use Rattle.instruction.proofs.judge_unlisted.Tie as tie

@@ -1,6 +1,6 @@
 use mathlib.Core.Path.{ap, _∙_}
 use Prim.Native.Nat.{ℕ}
-use Rattle.instruction.specs.Numbered.{judgedFrom}
+use Rattle.told.specs.Numbered.{judgedFrom}
 use Rattle.walk.specs.Steps.{onJudged}
 use borrow.Author.Needs.{needs}
 use Rattle.walk.proofs.step_in.Statement.{statement}

@@ -1,11 +1,11 @@
 use mathlib.Core.Path.{ap, _∙_}
 use Rattle.paper.specs.Instruction.{judged}
-use Rattle.instruction.specs.Numbered.{judgedFrom}
-use Rattle.instruction.proofs.Numbers.{judged-back}
-use Rattle.instruction.proofs.Stretches.{told-whole}
+use Rattle.told.specs.Numbered.{judgedFrom}
+use Rattle.told.proofs.Numbers.{judged-back}
+use Rattle.stretches.proofs.Stretches.{told-whole}
 use borrow.Author.Needs.{needs}
-use Rattle.instruction.proofs.judge.Statement.{statement}
-use Rattle.instruction.proofs.judge.Tie as tie
+use Rattle.stretches.proofs.judge.Statement.{statement}
+use Rattle.stretches.proofs.judge.Tie as tie
 
 judge-at-requires : tie.Need-judge-at-requires
 judge-at-requires c κs = search needs

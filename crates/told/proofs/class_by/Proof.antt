@@ -1,12 +1,11 @@
 use borrow.Author.Tests.{ne-eqb}
-use Rattle.instruction.proofs.reason_by.Statement.{statement}
-use Rattle.instruction.proofs.reason_by.Tie as tie
+use Rattle.told.proofs.class_by.Statement.{statement}
+use Rattle.told.proofs.class_by.Tie as tie
 
 -- none of the numbers that have an arm
-other : tie.Need-returns-14
+other : tie.Need-returns-13
 other c =
     simp (
-      ne-eqb _ _ (c .match .rest .0 .0 .0 .0 .0 .0 .0 .0 .0 .0 .0 .0 .1),
       ne-eqb _ _ (c .match .rest .0 .0 .0 .0 .0 .0 .0 .0 .0 .0 .0 .1),
       ne-eqb _ _ (c .match .rest .0 .0 .0 .0 .0 .0 .0 .0 .0 .0 .1),
       ne-eqb _ _ (c .match .rest .0 .0 .0 .0 .0 .0 .0 .0 .0 .1),
@@ -21,8 +20,8 @@ other c =
       ne-eqb _ _ (c .match .rest .1),
     )
 
-pub reason-by-spec : {M : Type 1} → statement M
-reason-by-spec =
+pub class-by-spec : {M : Type 1} → statement M
+class-by-spec =
     tie.close
     (tie.spec
     (λ c. rw (c .match .keys1))
@@ -37,5 +36,4 @@ reason-by-spec =
     (λ c. rw (c .match .keys10))
     (λ c. rw (c .match .keys11))
     (λ c. rw (c .match .keys12))
-    (λ c. rw (c .match .keys13))
     other)

@@ -1,8 +1,8 @@
 use borrow.Author.Tests.{eq-eqb, ne-eqb}
-use Rattle.instruction.specs.Numbered.{judgedFrom}
+use Rattle.told.specs.Numbered.{judgedFrom}
 use borrow.Author.Needs.{needs}
-use Rattle.instruction.proofs.judged_of.Statement.{statement}
-use Rattle.instruction.proofs.judged_of.Tie as tie
+use Rattle.told.proofs.judged_of.Statement.{statement}
+use Rattle.told.proofs.judged_of.Tie as tie
 
 reason-by-requires : tie.Need-reason-by-requires
 reason-by-requires c κs = search needs

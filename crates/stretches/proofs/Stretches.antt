@@ -27,16 +27,17 @@ use Rattle.paper.specs.declared.Judged.{Judged}
 use Rattle.paper.specs.declared.Judged.the-variants.{Good, Refused as Unfit}
 use Rattle.opcodes.specs.Places.{decoded}
 use Rattle.opcodes.proofs.Laws.{class-few}
-use Rattle.operands.specs.Numbered.{refusalNumber}
+use Rattle.told.specs.Numbered.{refusalNumber}
 use Rattle.instruction_token.specs.declared.Head.{Head}
 use Rattle.instruction_token.specs.declared.Head.the-variants.{Refused, End, Comment, Declaration, Operation}
 use Rattle.instruction_token.specs.Encoded.{encoded}
-use Rattle.instruction.specs.declared.Stretch.{Stretch}
-use Rattle.instruction.specs.Numbered.{judgedNumber, judgedFrom, judgedWith, judgedIn}
-use Rattle.instruction.specs.Stretch.{toldAt, isPlain, nextAt, Leads, here, past, Stretched}
-use Rattle.instruction.proofs.Numbers.{judged-back}
+use Rattle.stretches.specs.declared.Stretch.{Stretch}
+use Rattle.told.specs.Numbered.{judgedNumber, judgedFrom}
+use Rattle.instruction.specs.Shown.{judgedWith, judgedIn}
+use Rattle.stretches.specs.Stretch.{toldAt, isPlain, nextAt, Leads, here, past, Stretched}
+use Rattle.told.proofs.Numbers.{judged-back}
 use Rattle.instruction.proofs.Claimed.{judged-none}
 use Rattle.instruction.proofs.Judging.{judged-shown}
 
 -- a refusal is not plain, and a plain instruction takes tokens that are shown
 odd-plain : (r : Refusal) → isPlain (refusalNumber r) ≡ true → ⊥
@@ -132,14 +133,6 @@ module _
 pub leads-one : {v : Version} {tokens : List ℕ} {beyond start at n : ℕ} → Leads v tokens beyond 0 start at n → at ≡ start
 leads-one here = refl
 leads-one (past l p s) = absurd (omega arith)
-
--- so many tokens are there
-pub there-less : (length shown beyond : ℕ) → shown < length → leb (length - shown) beyond ≡ leb length (shown + beyond)
-there-less length shown beyond h = by (leb (length - shown) beyond) refl
-  where
-    by : (b : Bool) → leb (length - shown) beyond ≡ b → leb (length - shown) beyond ≡ leb length (shown + beyond)
-    by true e = e ∙ sym (le-leb length (shown + beyond) (omega (arith, leb-true (length - shown) beyond e)))
-    by false e = e ∙ sym (lt-leb length (shown + beyond) (omega (arith, leb-false (length - shown) beyond e)))
 
 -- what is told in a whole stream, and in a part of it behind which enough is shown, is of the instruction there
 module _ (v : Version) (s : List ℕ) where

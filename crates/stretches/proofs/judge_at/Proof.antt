@@ -1,9 +1,9 @@
 use mathlib.Core.Path.{ap, _∙_}
-use Rattle.instruction.specs.Stretch.{toldAt}
-use Rattle.instruction.proofs.Stretches.{leads-one}
+use Rattle.stretches.specs.Stretch.{toldAt}
+use Rattle.stretches.proofs.Stretches.{leads-one}
 use borrow.Author.Needs.{needs}
-use Rattle.instruction.proofs.judge_at.Statement.{statement}
-use Rattle.instruction.proofs.judge_at.Tie as tie
+use Rattle.stretches.proofs.judge_at.Statement.{statement}
+use Rattle.stretches.proofs.judge_at.Tie as tie
 
 judge-stretch-requires : tie.Need-judge-stretch-requires
 judge-stretch-requires c κs = search needs

@@ -1,0 +1,2 @@
+-- A stretch of plain instructions.
+pub mod Stretch
