@@ -29,7 +29,7 @@ use Rattle.walk.proofs.Stretching.{stretch-passed, stretch-steps}
 use Rattle.walk.proofs.OnStream.{step-on, step-done, step-refused, ends-accepted, ends-tail, stands-out}
 use Rattle.bytes.specs.declared.View.{View}
 use Rattle.bytes.specs.Bytes.{tokensOf, endsAt}
-use Rattle.bytes.specs.Views.{Within, held}
+use Rattle.bytes.specs.Views.{Within, held, Comes}
 use Rattle.bytes.proofs.Tokens.{tokens-length}
 
 module _ (v : Version) (bytes : List ℕ) (tokens : ℕ) (whole : length bytes ≡ 4 * tokens) where
@@ -83,15 +83,19 @@ module _ (v : Version) (bytes : List ℕ) (tokens : ℕ) (whole : length bytes �
               (λ q h. omega (arith, within .inside, within .begins, long)) told-there (omega (arith, long)) state stands (state .at - view .start) (omega arith) (omega arith) r stretched
               x e
 
-          pub view-on : (next : State) → x ≡ On next → Stands v (tokensOf bytes) next × (state .at < next .at)
-          view-on next f =
-              let on = step-on v (tokensOf bytes) (stateOf (view .start + r .at) (state .count + r .count) (state .kinds)) (view-there .0) view-inside (omega (arith, long)) next (steps ∙ f) in
+          view-by : (y : Stepped) → x ≡ y → Comes v (tokensOf bytes) (state .at + 1) y
+          view-by (On next) f =
+              let on =
+              step-on v (tokensOf bytes) (stateOf (view .start + r .at) (state .count + r .count) (state .kinds)) (view-there .0) view-inside (omega (arith, long)) next
+              (steps ∙ f) in
               (on .0, omega (arith, on .1, view-there .1))
+          view-by (Done next) f =
+              step-done v (tokensOf bytes) (stateOf (view .start + r .at) (state .count + r .count) (state .kinds)) (view-there .0) view-inside (omega (arith, long)) next
+              (steps ∙ f)
+          view-by (Refused q) f =
+              step-refused v (tokensOf bytes) (stateOf (view .start + r .at) (state .count + r .count) (state .kinds)) (view-there .0) view-inside (omega (arith, long)) q
+              (steps ∙ f)
 
-          pub view-done : (next : State) → x ≡ Done next → Ends v (tokensOf bytes) next
-          view-done next f =
-              step-done v (tokensOf bytes) (stateOf (view .start + r .at) (state .count + r .count) (state .kinds)) (view-there .0) view-inside (omega (arith, long)) next (steps ∙ f)
-
-          pub view-refused : (f : Refusal) → x ≡ Refused f → walked v (tokensOf bytes) ≡ no-verdict f
-          view-refused f g =
-              step-refused v (tokensOf bytes) (stateOf (view .start + r .at) (state .count + r .count) (state .kinds)) (view-there .0) view-inside (omega (arith, long)) f (steps ∙ g)
+          -- behind this state, behind the END that finishes the stream, or to a refusal
+          pub view-comes : Comes v (tokensOf bytes) (state .at + 1) x
+          view-comes = view-by x refl

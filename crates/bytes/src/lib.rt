@@ -21,6 +21,9 @@ const MOST_TOKENS: usize = 16384;
 // So many tokens are read at once.
 const WINDOW: usize = 128;
 
+// "Bits 27:24 are the size": nothing but a comment claims more tokens behind its first one.
+const MOST_CLAIMED: usize = 15;
+
 fn wide(byte: u8) -> u32
     ensures { λ r. ⌜ (r ≡ byte) × (r < 256) ⌝ }
 {
@@ -76,8 +79,7 @@ struct View {
     until: usize,
 }
 
-// The part from `at` on: 128 tokens, or all that are left. "Bits 27:24 are the size": nothing but a comment has more than sixteen
-// tokens, and a comment's body is skipped.
+// The part from `at` on: a window of tokens, or all that are left. What a comment claims is skipped, and need not be in it.
 fn view_from(at: usize, tokens: usize) -> View
     requires { ⌜ at < tokens ⌝ }
     ensures { λ r. ⌜ (r .start ≡ at) × (at < r .until) × (r .held ≤ 128) × Within tokens r ⌝ }
@@ -93,7 +95,7 @@ fn view_from(at: usize, tokens: usize) -> View
     View {
         start: at,
         held: WINDOW,
-        until: at + (WINDOW - 15),
+        until: at + (WINDOW - MOST_CLAIMED),
     }
 }
 
@@ -142,7 +144,7 @@ fn walk_bytes(version: Version, bytes: &[u8], tokens: usize) -> Verdict
     requires { ⌜ (1 ≤ tokens) × (length (now bytes) ≡ 4 * tokens) ⌝ }
     ensures { λ r. ⌜ r ≡ walked version (tokensOf (now (bytes .entry))) ⌝ }
 {
-    let mut window = [0u32; 128];
+    let mut window = [0u32; WINDOW];
     let mut state = State {
         at: 1,
         count: 0,

@@ -9,9 +9,6 @@ use paper::Refusal;
 use paper::Token;
 use paper::Version;
 
-// The destination's place, of specs/OperandTokens.antt.
-const DECLARED: u64 = 61;
-
 // Register types that are declared, as sets: each type raises its own bit.
 const NONE: u32 = 0;
 
@@ -150,7 +147,7 @@ fn is_declared(version: Version, destination: u32) -> bool
 fn declared_at(version: Version, destination: u32) -> Token
     ensures { λ r. ⌜ r ≡ declaredAt version destination ⌝ }
 {
-    let laid = layout::destination_laid(version, DECLARED, destination);
+    let laid = layout::typed_destination_laid(version, destination);
     let face = face_laid(version, destination);
     let declared = is_declared(version, destination);
     layout::layout_then_type(laid & face, declared)

@@ -15,7 +15,8 @@ ghost use Rattle.instruction.specs.Shown.{judgedIn, unlistedIn};
 use paper::Operands;
 use paper::Version;
 
-// What is told of an instruction is one number, of specs/Numbered.antt: a yes is even, a refusal odd. These are refusals at position 0.
+// What is told of an instruction is one number, of told's specs/Numbered.antt: a yes is even, a refusal odd. These are refusals at
+// position 0.
 const OPCODE: u64 = 2 * 3 + 1;
 
 const BITS: u64 = 2 * 4 + 1;
@@ -24,6 +25,13 @@ const RUN_OUT: u64 = 2 * 5 + 1;
 
 // The class of END, as a yes of no tokens has it.
 const ENDED: u64 = 2 * 12;
+
+// Opcodes that are judged apart.
+const DCL: u32 = 31;
+
+const COMMENT: u32 = 0xFFFE;
+
+const END: u32 = 0xFFFF;
 
 // The two tokens of a DCL, and no token more.
 fn judge_declared(version: Version, behind: &[u32]) -> u64
@@ -43,7 +51,7 @@ fn judge_declared(version: Version, behind: &[u32]) -> u64
 fn judge_claimed(version: Version, shape: u64, first: u32, behind: &[u32]) -> u64
     ensures { λ r. ⌜ r ≡ operandsNumber (operandsBy version shape first (now (behind .entry))) ⌝ }
 {
-    if first % 0x1_0000 == 31 {
+    if first % 0x1_0000 == DCL {
         return judge_declared(version, behind);
     }
     operands::judge_operands(version, instruction_token::places_of(shape, first), behind)
@@ -80,7 +88,7 @@ fn judge_unlisted(first: u32, shown: usize, beyond: usize) -> u64
     ensures { λ r. ⌜ r ≡ judgedNumber (unlistedIn first (shown + beyond)) ⌝ }
 {
     let opcode = first % 0x1_0000;
-    if opcode == 0xFFFE {
+    if opcode == COMMENT {
         if first / 0x8000_0000 % 2 == 0 {
             let length = (first / 0x1_0000 % 0x8000) as usize;
             if are_there(length, shown, beyond) {
@@ -90,8 +98,8 @@ fn judge_unlisted(first: u32, shown: usize, beyond: usize) -> u64
         }
         return BITS;
     }
-    if opcode == 0xFFFF {
-        if first == 0xFFFF {
+    if opcode == END {
+        if first == END {
             return ENDED;
         }
         return BITS;

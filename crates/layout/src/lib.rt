@@ -5,49 +5,22 @@ ghost use Prim.Native.Nat.{_<_};
 ghost use lib.Dec.{eqb};
 ghost use Rattle.paper.specs.Notation.{bits};
 ghost use Rattle.paper.specs.Versions.{isPixel};
-ghost use Rattle.paper.specs.OperandTokens.{typeOf, modifierOf, bothLaid, mayBeRelative, destinationLaid, modifierLaid, sourceLaid, layoutThenType};
+ghost use Rattle.paper.specs.OperandTokens.{typeOf, modifierOf, bothLaid, destinationLaid, modifierLaid, sourceLaid, layoutThenType};
 ghost use Rattle.paper.specs.declared.Version.the-variants.{P2};
 use paper::Reason;
 use paper::Token;
 use paper::Version;
 
 // The places of specs/OperandTokens.antt, by their numbers there.
-const FREE_DESTINATION: u64 = 63;
-
 const PREDICATE: u64 = 93;
 
 const RELATIVE: u64 = 94;
-
-const FREE_SOURCE: u64 = 95;
 
 // A set of modifiers: each raises its own bit.
 const PLAIN_MODIFIERS: u32 = 0b1_1000_0111_1111;
 
 // The register type that alone takes modifier D.
 const PREDICATE_REGISTER: u32 = 19;
-
-fn may_be_relative(version: Version, place: u64) -> bool
-    ensures { λ r. ⌜ r ≡ mayBeRelative version place ⌝ }
-{
-    if place == FREE_SOURCE {
-        return versions::relative_sources(version);
-    }
-    if place == FREE_DESTINATION {
-        return versions::relative_destinations(version);
-    }
-    false
-}
-
-pub fn destination_laid(version: Version, place: u64, token: u32) -> bool
-    ensures { λ r. ⌜ r ≡ destinationLaid version place token ⌝ }
-{
-    let pixel = versions::is_pixel(version);
-    let relative = may_be_relative(version, place);
-    ((token / 0x4000 % 4 == 0) & (token / 0x8000_0000 % 2 == 1))
-        & (((token / 0x20_0000 % 4 == 0) | pixel)
-            & ((token / 0x80_0000 % 2 == 0)
-                & ((token / 0x100_0000 % 16 == 0) & ((token / 0x2000 % 2 == 0) | relative))))
-}
 
 fn modifier_laid(place: u64, modifier: u32, kind: u32) -> bool
     requires { ⌜ modifier < 16 ⌝ }

@@ -27,12 +27,11 @@ use Rattle.paper.specs.declared.Judged.{Judged}
 use Rattle.paper.specs.declared.Judged.the-variants.{Good, Refused as Unfit}
 use Rattle.opcodes.specs.Places.{decoded}
 use Rattle.opcodes.proofs.Laws.{class-few}
-use Rattle.told.specs.Numbered.{refusalNumber}
+use Rattle.told.specs.Numbered.{refusalNumber, judgedNumber, judgedFrom}
 use Rattle.instruction_token.specs.declared.Head.{Head}
 use Rattle.instruction_token.specs.declared.Head.the-variants.{Refused, End, Comment, Declaration, Operation}
 use Rattle.instruction_token.specs.Encoded.{encoded}
 use Rattle.stretches.specs.declared.Stretch.{Stretch}
-use Rattle.told.specs.Numbered.{judgedNumber, judgedFrom}
 use Rattle.instruction.specs.Shown.{judgedWith, judgedIn}
 use Rattle.stretches.specs.Stretch.{toldAt, isPlain, nextAt, Leads, here, past, Stretched}
 use Rattle.told.proofs.Numbers.{judged-back}

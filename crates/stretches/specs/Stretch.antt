@@ -9,9 +9,8 @@ use Rattle.paper.specs.Notation.{pick}
 use Rattle.paper.specs.Numbers.{refusal}
 use Rattle.paper.specs.declared.Version.{Version}
 use Rattle.paper.specs.declared.Reason.the-variants.{RunOut as RUN-OUT}
-use Rattle.told.specs.Numbered.{refusalNumber}
+use Rattle.told.specs.Numbered.{refusalNumber, judgedNumber}
 use Rattle.stretches.specs.declared.Stretch.{Stretch}
-use Rattle.told.specs.Numbered.{judgedNumber}
 use Rattle.instruction.specs.Shown.{judgedIn}
 
 -- what is told of the instruction at a place of these tokens, behind which so many more are there

@@ -5,8 +5,10 @@ ghost use Rattle.stretches.specs.Stretch.{toldAt, Stretched};
 use paper::Judged;
 use paper::Version;
 
-// RUN-OUT at position 0, as told's specs/Numbered.antt has it.
+// What told's specs/Numbered.antt has of RUN-OUT at position 0, and of a plain instruction below its size.
 const RUN_OUT: u64 = 2 * 5 + 1;
+
+const PLAIN: u64 = 2 * 1;
 
 // Where a stretch of plain instructions ends: the position of the instruction at its end, how many plain ones are before it, and
 // what is told of it.
@@ -31,7 +33,7 @@ pub fn judge_stretch(
     let mut count = 0;
     while at < tokens.len() {
         let told = instruction::judge_first(version, tokens[at], &tokens[at + 1..], beyond);
-        if told % 32 != 2 {
+        if told % 32 != PLAIN {
             return Stretch { at, count, told };
         }
         let next = at + 1 + (told / 32) as usize;

@@ -4,6 +4,7 @@ use native.Mathlib.Omega.{arith}
 use lib.ListN.{length, take, drop}
 use lib.Seq.{length-take-le}
 use borrow.Author.Needs.{needs}
+use Rattle.walk.specs.declared.Stepped.{Stepped}
 use Rattle.walk.specs.Stands.{Stands}
 use Rattle.walk.proofs.OnStream.{stands-first}
 use Rattle.bytes.specs.Bytes.{tokensOf}
@@ -62,28 +63,29 @@ walk-view-requires c κs =
       e .1,
     )
 
+-- the loop and the start, from the walk over a part, and where that walk comes to
+abbrev viewed : tie.After-walk-view Inv-loop μ-loop → tie.After-view-from Inv-loop μ-loop
+viewed w = w .before .before .before .before .before
+
+abbrev start : tie.After-walk-view Inv-loop μ-loop → tie.Start Inv-loop μ-loop
+start w = viewed w .before .before .before .before .before
+
+came : (w : tie.After-walk-view Inv-loop μ-loop) {x : Stepped} → w .walk-view .result ≡ x →
+    Comes (start w .args .version) (tokensOf (start w .args .bytes .now)) (viewed w .view-from .result .until) x
+came w e = subst (Comes (start w .args .version) (tokensOf (start w .args .bytes .now)) (viewed w .view-from .result .until)) e (w .walk-view .ensures)
+
 enum-known-stepped : tie.Need-enum-known-stepped Inv-loop μ-loop
 enum-known-stepped c = search needs
 
 loop-less : tie.Need-loop-less Inv-loop μ-loop
 loop-less c =
     let w = c .before .before .before in
-    let n = w .before .before .before .before .before in
-    let l = n .before .before .before .loop in
-    let s = n .before .before .before .before .before in
-    let g = s .args in
-    let on = subst (Comes (g .version) (tokensOf (g .bytes .now)) (n .view-from .result .until)) (c .before .stepped .given .1) (w .walk-view .ensures) in
-    omega (arith, on .1, n .view-from .ensures .1, n .before .if1 .taken)
+    omega (arith, came w (c .before .stepped .given .1) .1, viewed w .view-from .ensures .1, viewed w .before .if1 .taken)
 
 loop-again : tie.Need-loop-again Inv-loop μ-loop
 loop-again c =
     let w = c .before .before .before in
-    let n = w .before .before .before .before .before in
-    let l = n .before .before .before .loop in
-    let s = n .before .before .before .before .before in
-    let g = s .args in
-    let on = subst (Comes (g .version) (tokensOf (g .bytes .now)) (n .view-from .result .until)) (c .before .stepped .given .1) (w .walk-view .ensures) in
-    (omega (arith, w .before .before .before .fill .kept .0, l .inv .0), on .0)
+    (omega (arith, w .before .before .before .fill .kept .0, viewed w .before .before .before .loop .inv .0), came w (c .before .stepped .given .1) .0)
 
 enum-known-stepped-2 : tie.Need-enum-known-stepped-2 Inv-loop μ-loop
 enum-known-stepped-2 c = search needs
@@ -94,23 +96,16 @@ conclude-requires c κs = search needs
 returns : tie.Need-returns Inv-loop μ-loop
 returns c =
     let w = c .before .before .before .before in
-    let n = w .before .before .before .before .before in
-    let l = n .before .before .before .loop in
-    let s = n .before .before .before .before .before in
+    let s = start w in
     let g = s .args in
-    c .conclude .ensures ∙ ends-is (g .version) (g .bytes .now) (g .tokens) (s .pre .1) (c .before .before .stepped2 .given .0 .0) (subst (Comes (g .version) (tokensOf (g .bytes .now)) (n .view-from .result .until)) (c .before .before .stepped2 .given .1) (w .walk-view .ensures))
+    c .conclude .ensures
+    ∙ ends-is (g .version) (g .bytes .now) (g .tokens) (s .pre .1) (c .before .before .stepped2 .given .0 .0) (came w (c .before .before .stepped2 .given .1))
 
 enum-known-stepped-3 : tie.Need-enum-known-stepped-3 Inv-loop μ-loop
 enum-known-stepped-3 c = search needs
 
 returns-2 : tie.Need-returns-2 Inv-loop μ-loop
-returns-2 c =
-    let w = c .before .before .before in
-    let n = w .before .before .before .before .before in
-    let l = n .before .before .before .loop in
-    let s = n .before .before .before .before .before in
-    let g = s .args in
-    sym (subst (Comes (g .version) (tokensOf (g .bytes .now)) (n .view-from .result .until)) (c .before .stepped3 .given .1) (w .walk-view .ensures))
+returns-2 c = sym (came (c .before .before .before) (c .before .stepped3 .given .1))
 
 refused-requires : tie.Need-refused-requires Inv-loop μ-loop
 refused-requires c κs = search needs

@@ -1,9 +1,13 @@
-use Prim.Native.Nat.{_-_, _≤_, _<_}
+use Prim.Native.Nat.{_+_, _-_, _≤_, _<_}
+use mathlib.Core.Path.{_≡_, subst}
 use native.Mathlib.Omega.{arith}
 use borrow.Author.Needs.{needs}
+use Rattle.walk.specs.declared.Stepped.{Stepped}
+use Rattle.walk.specs.Steps.{stateOf}
 use Rattle.walk.specs.Stands.{Stands}
 use Rattle.bytes.specs.Bytes.{tokensOf}
-use Rattle.bytes.proofs.Turn.{view-there, view-on, view-done, view-refused}
+use Rattle.bytes.specs.Views.{Comes}
+use Rattle.bytes.proofs.Turn.{view-there, view-comes}
 use Rattle.bytes.proofs.walk_view.Statement.{statement}
 use Rattle.bytes.proofs.walk_view.Tie as tie
 
@@ -32,21 +36,56 @@ sub-judge-stretch c = omega (arith, c .before .before .loop .inv)
 judge-stretch-requires : tie.Need-judge-stretch-requires Inv-loop μ-loop
 judge-stretch-requires c κs = search needs
 
+-- the loop and the start, from the stretch that a turn judges
+abbrev turned : tie.After-judge-stretch Inv-loop μ-loop → tie.At-loop Inv-loop μ-loop
+turned j = j .before .before .before
+
+abbrev start : tie.After-judge-stretch Inv-loop μ-loop → tie.Start Inv-loop μ-loop
+start j = j .before .before .before .before .before .before .before .before
+
+passed : (j : tie.After-judge-stretch Inv-loop μ-loop) →
+    let g = start j .args in
+    let l = turned j .loop .state in
+    let r = j .judge-stretch .result in
+    Stands (g .version) (tokensOf (g .bytes .now)) (stateOf (g .view .start + r .at) (l .count + r .count) (l .kinds)) × (l .at - g .view .start ≤ r .at) × (r .at < g .view .until - g .view .start)
+passed j =
+    let s = start j in
+    let g = s .args in
+    let l = turned j .loop in
+    view-there (g .version) (g .bytes .now) (g .tokens) (s .pre .0) (omega arith) (g .view) (s .pre .2) (g .part .now) (s .pre .1) (l .state) (l .inv .0) (l .inv .1) (l .inv .2)
+    (j .judge-stretch .result) (j .judge-stretch .ensures)
+
+-- where the step over the instruction at its end comes to: behind the state of this turn
+abbrev stretch : tie.After-step-told Inv-loop μ-loop → tie.After-judge-stretch Inv-loop μ-loop
+stretch t = t .before .before .before .before .before
+
+comes : (t : tie.After-step-told Inv-loop μ-loop) →
+    let j = stretch t in
+    Comes (start j .args .version) (tokensOf (start j .args .bytes .now)) (turned j .loop .state .at + 1) (t .step-told .result)
+comes t =
+    let j = stretch t in
+    let s = start j in
+    let g = s .args in
+    let l = turned j .loop in
+    view-comes (g .version) (g .bytes .now) (g .tokens) (s .pre .0) (omega arith) (g .view) (s .pre .2) (g .part .now) (s .pre .1) (l .state) (l .inv .0) (l .inv .1) (l .inv .2)
+    (j .judge-stretch .result) (j .judge-stretch .ensures) (t .step-told .result) (t .step-told .ensures)
+
+came : (t : tie.After-step-told Inv-loop μ-loop) {x : Stepped} → t .step-told .result ≡ x →
+    let j = stretch t in
+    Comes (start j .args .version) (tokensOf (start j .args .bytes .now)) (turned j .loop .state .at + 1) x
+came t e =
+    let j = stretch t in
+    subst (Comes (start j .args .version) (tokensOf (start j .args .bytes .now)) (turned j .loop .state .at + 1)) e (comes t)
+
 add-step-told : tie.Need-add-step-told Inv-loop μ-loop
 add-step-told c =
     let j = c .before .before in
-    let l = j .before .before .before .loop in
-    let s = j .before .before .before .before .before .before .before .before in
-    let g = s .args in
-    omega (arith, view-there (g .version) (g .bytes .now) (g .tokens) (s .pre .0) (omega arith) (g .view) (s .pre .2) (g .part .now) (s .pre .1) (l .state) (l .inv .0) (l .inv .1) (l .inv .2) (j .judge-stretch .result) (j .judge-stretch .ensures) .2, s .pre .2 .inside, s .pre .2 .begins)
+    omega (arith, passed j .2, start j .pre .2 .inside, start j .pre .2 .begins)
 
 add-step-told-2 : tie.Need-add-step-told-2 Inv-loop μ-loop
 add-step-told-2 c =
     let j = c .before .before .before .before in
-    let l = j .before .before .before .loop in
-    let s = j .before .before .before .before .before .before .before .before in
-    let g = s .args in
-    omega (arith, view-there (g .version) (g .bytes .now) (g .tokens) (s .pre .0) (omega arith) (g .view) (s .pre .2) (g .part .now) (s .pre .1) (l .state) (l .inv .0) (l .inv .1) (l .inv .2) (j .judge-stretch .result) (j .judge-stretch .ensures) .0 .counted, view-there (g .version) (g .bytes .now) (g .tokens) (s .pre .0) (omega arith) (g .view) (s .pre .2) (g .part .now) (s .pre .1) (l .state) (l .inv .0) (l .inv .1) (l .inv .2) (j .judge-stretch .result) (j .judge-stretch .ensures) .2, s .pre .2 .inside, s .pre .2 .begins)
+    omega (arith, passed j .0 .counted, passed j .2, start j .pre .2 .inside, start j .pre .2 .begins)
 
 step-told-requires : tie.Need-step-told-requires Inv-loop μ-loop
 step-told-requires c κs = search needs
@@ -55,56 +94,30 @@ enum-known-stepped : tie.Need-enum-known-stepped Inv-loop μ-loop
 enum-known-stepped c = search needs
 
 returns : tie.Need-returns Inv-loop μ-loop
-returns c =
-    let t = c .before .before .before .before .before .before in
-    let j = t .before .before .before .before .before in
-    let l = j .before .before .before .loop in
-    let s = j .before .before .before .before .before .before .before .before in
-    let g = s .args in
-    (view-on (g .version) (g .bytes .now) (g .tokens) (s .pre .0) (omega arith) (g .view) (s .pre .2) (g .part .now) (s .pre .1) (l .state) (l .inv .0) (l .inv .1) (l .inv .2) (j .judge-stretch .result) (j .judge-stretch .ensures) (t .step-told .result) (t .step-told .ensures) (c .before .before .before .before .stepped .given .0 .0) (c .before .before .before .before .stepped .given .1) .0, c .if1 .taken)
+returns c = (came (c .before .before .before .before .before .before) (c .before .before .before .before .stepped .given .1) .0, c .if1 .taken)
 
 loop-less : tie.Need-loop-less Inv-loop μ-loop
 loop-less c =
     let t = c .before .before .before .before .before .before in
-    let j = t .before .before .before .before .before in
-    let l = j .before .before .before .loop in
-    let s = j .before .before .before .before .before .before .before .before in
-    let g = s .args in
-    omega (arith, view-on (g .version) (g .bytes .now) (g .tokens) (s .pre .0) (omega arith) (g .view) (s .pre .2) (g .part .now) (s .pre .1) (l .state) (l .inv .0) (l .inv .1) (l .inv .2) (j .judge-stretch .result) (j .judge-stretch .ensures) (t .step-told .result) (t .step-told .ensures) (c .before .before .before .before .stepped .given .0 .0) (c .before .before .before .before .stepped .given .1) .1, l .inv .2)
+    omega (arith, came t (c .before .before .before .before .stepped .given .1) .1, turned (stretch t) .loop .inv .2)
 
 loop-again : tie.Need-loop-again Inv-loop μ-loop
 loop-again c =
     let t = c .before .before .before .before .before .before in
-    let j = t .before .before .before .before .before in
-    let l = j .before .before .before .loop in
-    let s = j .before .before .before .before .before .before .before .before in
-    let g = s .args in
-    let on = view-on (g .version) (g .bytes .now) (g .tokens) (s .pre .0) (omega arith) (g .view) (s .pre .2) (g .part .now) (s .pre .1) (l .state) (l .inv .0) (l .inv .1) (l .inv .2) (j .judge-stretch .result) (j .judge-stretch .ensures) (t .step-told .result) (t .step-told .ensures) (c .before .before .before .before .stepped .given .0 .0) (c .before .before .before .before .stepped .given .1) in
-    (on .0, omega (arith, on .1, l .inv .1), omega (arith, c .if1 .left))
+    let on = came t (c .before .before .before .before .stepped .given .1) in
+    (on .0, omega (arith, on .1, turned (stretch t) .loop .inv .1), omega (arith, c .if1 .left))
 
 enum-known-stepped-2 : tie.Need-enum-known-stepped-2 Inv-loop μ-loop
 enum-known-stepped-2 c = search needs
 
 returns-2 : tie.Need-returns-2 Inv-loop μ-loop
-returns-2 c =
-    let t = c .before .before .before in
-    let j = t .before .before .before .before .before in
-    let l = j .before .before .before .loop in
-    let s = j .before .before .before .before .before .before .before .before in
-    let g = s .args in
-    view-done (g .version) (g .bytes .now) (g .tokens) (s .pre .0) (omega arith) (g .view) (s .pre .2) (g .part .now) (s .pre .1) (l .state) (l .inv .0) (l .inv .1) (l .inv .2) (j .judge-stretch .result) (j .judge-stretch .ensures) (t .step-told .result) (t .step-told .ensures) (c .before .stepped2 .given .0 .0) (c .before .stepped2 .given .1)
+returns-2 c = came (c .before .before .before) (c .before .stepped2 .given .1)
 
 enum-known-stepped-3 : tie.Need-enum-known-stepped-3 Inv-loop μ-loop
 enum-known-stepped-3 c = search needs
 
 returns-3 : tie.Need-returns-3 Inv-loop μ-loop
-returns-3 c =
-    let t = c .before .before .before in
-    let j = t .before .before .before .before .before in
-    let l = j .before .before .before .loop in
-    let s = j .before .before .before .before .before .before .before .before in
-    let g = s .args in
-    view-refused (g .version) (g .bytes .now) (g .tokens) (s .pre .0) (omega arith) (g .view) (s .pre .2) (g .part .now) (s .pre .1) (l .state) (l .inv .0) (l .inv .1) (l .inv .2) (j .judge-stretch .result) (j .judge-stretch .ensures) (t .step-told .result) (t .step-told .ensures) (c .before .stepped3 .given .0 .0) (c .before .stepped3 .given .1)
+returns-3 c = came (c .before .before .before) (c .before .stepped3 .given .1)
 
 pub walk-view-spec : {M : Type 1} → statement M
 walk-view-spec =
