@@ -7,8 +7,8 @@ use lib.Dec.{eqb, ltb}
 use borrow.Author.Tests.{ltb-true, eqb-true}
 use Rattle.paper.specs.Notation.{pick}
 use Rattle.paper.specs.Numbers.{refusal}
-use Rattle.paper.specs.Blocks.{Cut, out, wrong, then, stands, loopsIn, closerOf, mostOpen, Body, none, more, Item, one, block, Block, closed, withElse}
-use Rattle.paper.specs.Walk.{opened, pastElse, closerNumber, closes, elses}
+use Rattle.paper.specs.Blocks.{Cut, out, wrong, then, mayStand, loopsIn, closerOf, mostOpen, Body, none, more, Item, one, block, Block, closed, withElse}
+use Rattle.paper.specs.Walk.{opened, pastElse, isEndIf, isEnd, closesOpener, closes, elses}
 use Rattle.paper.specs.declared.Class.{Class}
 use Rattle.paper.specs.declared.Class.the-variants.{One, Opens, Closes}
 use Rattle.paper.specs.declared.Opener.{Opener}
@@ -20,33 +20,45 @@ use Rattle.paper.specs.declared.Reason.the-variants.{Block as BLOCK, Depth as D
 use Rattle.blocks.specs.Descent.{BodyEnd, stopped, broken, ItemEnd, passed, closer, refused, onItem, closing, onLast, onFirst, body, item}
 use Rattle.blocks.specs.Descent
 
--- the closer of a number
-closerNamed : ℕ → Closer
-closerNamed n = pick (eqb n 0) Else (pick (eqb n 1) EndIf (pick (eqb n 2) EndLoop (pick (eqb n 3) EndRep End)))
-
-named-number : (c : Closer) → closerNamed (closerNumber c) ≡ c
-unfolding closerNamed
-named-number Else = refl
-named-number EndIf = refl
-named-number EndLoop = refl
-named-number EndRep = refl
-named-number End = refl
-
--- closers with one number are one
-pub same-closer : (c d : Closer) → eqb (closerNumber c) (closerNumber d) ≡ true → c ≡ d
-same-closer c d e = sym (named-number c) ∙ ap closerNamed (eqb-true (closerNumber c) (closerNumber d) e) ∙ named-number d
-
-never : {A : Type 0} → false ≡ true → A
+pub never : {A : Type 0} → false ≡ true → A
 never e = let z : _≡_ {A = ℕ} 0 1 = cc in absurd (omega arith)
+
+-- a closer is known by its name
+pub is-end : (c : Closer) → isEnd c ≡ true → c ≡ End
+is-end Else e = never e
+is-end EndIf e = never e
+is-end EndLoop e = never e
+is-end EndRep e = never e
+is-end End e = refl
+
+is-end-if : (c : Closer) → isEndIf c ≡ true → c ≡ EndIf
+is-end-if Else e = never e
+is-end-if EndIf e = refl
+is-end-if EndLoop e = never e
+is-end-if EndRep e = never e
+is-end-if End e = never e
+
+is-own : (c : Closer) (o : Opener) → closesOpener c o ≡ true → c ≡ closerOf o
+is-own c If e = is-end-if c e
+is-own Else Loop e = never e
+is-own EndIf Loop e = never e
+is-own EndLoop Loop e = refl
+is-own EndRep Loop e = never e
+is-own End Loop e = never e
+is-own Else Rep e = never e
+is-own EndIf Rep e = never e
+is-own EndLoop Rep e = never e
+is-own EndRep Rep e = refl
+is-own End Rep e = never e
 
 else-at-if : (c : Closer) (o : Opener) → elses c (opened o) ≡ true → (c ≡ Else) × (o ≡ If)
 else-at-if Else If e = (refl, refl)
-else-at-if Else Loop e = never e
-else-at-if Else Rep e = never e
-else-at-if EndIf o e = never e
-else-at-if EndLoop o e = never e
-else-at-if EndRep o e = never e
-else-at-if End o e = never e
+else-at-if EndIf If e = never e
+else-at-if EndLoop If e = never e
+else-at-if EndRep If e = never e
+else-at-if End If e = never e
+else-at-if c Loop e = never e
+else-at-if c Rep e = never e
 
 -- what is taken is derived; what is refused says nothing
 abbrev pub BodyDerived : ℕ → Bool → Cut → BodyEnd → Type 0
@@ -74,7 +86,7 @@ module _ (depth : ℕ) (loop : Bool) where
   on-item-derived a next h (closer c p b) x = x
   on-item-derived a next h (refused r) x = tt
 
-  one-derived : (s : Single) (p : ℕ) (a : Cut) (test : Bool) → stands depth loop s ≡ test →
+  one-derived : (s : Single) (p : ℕ) (a : Cut) (test : Bool) → mayStand depth loop s ≡ test →
       ItemDerived depth loop (then (One s) p a) (pick test (passed a) (refused (refusal BLOCK p)))
   one-derived s p a true e = one e
   one-derived s p a false e = tt
@@ -91,7 +103,7 @@ module _ (depth : ℕ) (loop : Bool) where
 
   closed-derived : (o : Opener) (p : ℕ) (a : Cut) (c : Closer) (q : ℕ) (b : Cut) → Body (suc depth) (loopsIn o loop) a (then (Closes c) q b) →
       (test : Bool) → closes c (opened o) ≡ test → BlockDerived depth loop (then (Opens o) p a) (pick test (passed b) (refused (refusal BLOCK q)))
-  closed-derived o p a c q b x true e = closed (rw (same-closer c (closerOf o) e) at x)
+  closed-derived o p a c q b x true e = closed (rw (is-own c o e) at x)
   closed-derived o p a c q b x false e = tt
 
   second-derived : (p : ℕ) (a : Cut) (q : ℕ) (b : Cut) → Body (suc depth) loop a (then (Closes Else) q b) →
@@ -100,7 +112,7 @@ module _ (depth : ℕ) (loop : Bool) where
     where
       go-on : (test : Bool) → closes c pastElse ≡ test →
           BlockDerived depth loop (then (Opens If) p a) (pick test (passed d) (refused (refusal BLOCK r)))
-      go-on true e = withElse x (rw (same-closer c EndIf e) at y)
+      go-on true e = withElse x (rw (is-end-if c e) at y)
       go-on false e = tt
   second-derived p a q b x (broken r) y = tt
 
@@ -131,7 +143,7 @@ mutual
 
   item-derived : (most depth : ℕ) (loop : Bool) (c : Class) (p : ℕ) (a : Cut) → ItemDerived depth loop (then c p a) (item most depth loop c p a)
   item-derived zero depth loop c p a = tt
-  item-derived (suc most) depth loop (One s) p a = one-derived depth loop s p a (stands depth loop s) refl
+  item-derived (suc most) depth loop (One s) p a = one-derived depth loop s p a (mayStand depth loop s) refl
   item-derived (suc most) depth loop (Opens o) p a =
       opens-derived depth loop (then (Opens o) p a) p (Descent.block most depth loop o a) (block-derived most depth loop o p a)
       (ltb depth mostOpen) refl

@@ -5,3 +5,5 @@ pub mod Derived
 pub mod WalkIsGrammar
 pub mod Reach
 pub mod Refused
+pub mod Counting
+pub mod Classes

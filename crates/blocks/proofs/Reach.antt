@@ -4,14 +4,15 @@ use mathlib.Core.Path.{_≡_, refl, ap, sym, _∙_}
 use mathlib.Core.List.{List, [], _∷_}
 use native.Mathlib.Omega.{arith}
 use Rattle.paper.specs.Blocks.{Cut, out, wrong, then}
-use Rattle.paper.specs.Walk.{Kind, step, Next, go, bad, finish, onNext, atEnd, walk}
+use Rattle.paper.specs.Walk.{Kind, step, Next, go, bad, finish, onNext, atEnd}
 use Rattle.paper.specs.declared.Class.{Class}
+use Rattle.blocks.specs.Nesting.{nesting}
 use Rattle.blocks.specs.Begins.{Leads, nothing, first}
 use Rattle.blocks.specs.Reach.{Reaches, here, past, onwards, openAfter, moved, movedCut}
 
 -- the verdict is that of what is reached
-pub reached : {a b : Cut} {ks ls : List Kind} → Reaches a ks b ls → (n : ℕ) → walk n a ks ≡ walk n b ls
-unfolding walk
+pub reached : {a b : Cut} {ks ls : List Kind} → Reaches a ks b ls → (n : ℕ) → nesting n a ks ≡ nesting n b ls
+unfolding nesting
 reached here n = refl
 reached (past e r) n = rw e (reached r n)
 
@@ -52,15 +53,15 @@ moved-end m n f (out p) = refl
 moved-end m n f (wrong p r) = refl
 moved-end m n f (then c p a) = refl
 
-moved-next : (m n : ℕ) (f : ℕ → ℕ) (p : ℕ) (a : Cut) → ((ks : List Kind) → walk n (movedCut f a) ks ≡ moved n f (walk m a ks)) →
-    (x : Next) → onNext x n (f p) (movedCut f a) (λ next. walk n (movedCut f a) next) ≡ moved n f (onNext x m p a (λ next. walk m a next))
+moved-next : (m n : ℕ) (f : ℕ → ℕ) (p : ℕ) (a : Cut) → ((ks : List Kind) → nesting n (movedCut f a) ks ≡ moved n f (nesting m a ks)) →
+    (x : Next) → onNext x n (f p) (movedCut f a) (λ next. nesting n (movedCut f a) next) ≡ moved n f (onNext x m p a (λ next. nesting m a next))
 moved-next m n f p a h (go ks) = h ks
 moved-next m n f p a h (bad r) = refl
 moved-next m n f p a h finish = moved-end m n f a
 
 -- a stream whose positions are moved has the verdict moved
-pub moved-walk : (m n : ℕ) (f : ℕ → ℕ) (a : Cut) (ks : List Kind) → walk n (movedCut f a) ks ≡ moved n f (walk m a ks)
-unfolding walk movedCut
+pub moved-walk : (m n : ℕ) (f : ℕ → ℕ) (a : Cut) (ks : List Kind) → nesting n (movedCut f a) ks ≡ moved n f (nesting m a ks)
+unfolding nesting movedCut
 moved-walk m n f (out p) ks = refl
 moved-walk m n f (wrong p r) ks = refl
 moved-walk m n f (then c p a) ks = moved-next m n f p a (λ next. moved-walk m n f a next) (step ks c)
@@ -73,5 +74,5 @@ moved-reaches f (past e r) = past e (moved-reaches f r)
 
 -- two walks that come to one cut, moved in the second, with the same blocks open, have one verdict, moved in the second
 pub joined : (m n : ℕ) (f : ℕ → ℕ) {a b c : Cut} {ks : List Kind} → Reaches a [] c ks → Reaches b [] (movedCut f c) ks →
-    walk n b [] ≡ moved n f (walk m a [])
+    nesting n b [] ≡ moved n f (nesting m a [])
 joined m n f {a} {b} {c} {ks} r s = reached s n ∙ moved-walk m n f c ks ∙ ap (moved n f) (sym (reached r m))

@@ -8,8 +8,8 @@ use lib.Dec.{ltb}
 use lib.ListN.{length}
 use Rattle.paper.specs.Notation.{pick}
 use Rattle.paper.specs.Numbers.{refusal}
-use Rattle.paper.specs.Blocks.{Cut, out, then, stands, mostOpen}
-use Rattle.paper.specs.Walk.{Kind, opened, pastElse, inLoop, closerAt, closes, elses, closeAt, step, Next, go, bad, finish, onNext, atEnd, walk}
+use Rattle.paper.specs.Blocks.{Cut, out, then, mayStand, mostOpen, closerOf}
+use Rattle.paper.specs.Walk.{Kind, opened, pastElse, inLoop, closes, elses, closeAt, step, Next, go, bad, finish, onNext, atEnd}
 use Rattle.paper.specs.declared.Class.{Class}
 use Rattle.paper.specs.declared.Class.the-variants.{One, Opens, Closes}
 use Rattle.paper.specs.declared.Opener.the-variants.{If, Loop, Rep}
@@ -20,47 +20,48 @@ use Rattle.paper.specs.declared.Reason.{Reason}
 use Rattle.paper.specs.declared.Reason.the-variants.{Block as BLOCK, Depth as DEPTH, Tail as TAIL}
 use Rattle.paper.specs.declared.Verdict.{Verdict}
 use Rattle.paper.specs.declared.Verdict.the-variants.{Accepted, Refused}
-use Rattle.blocks.specs.Begins.{Leads, nothing, first, Begins, isEnd, ended, nestingReason, reasonAfter}
+use Rattle.blocks.specs.Nesting.{nesting}
+use Rattle.blocks.specs.Begins.{Leads, nothing, first, Begins, endsStream, ended, nestingReason, reasonAfter}
 use Rattle.blocks.specs.Reach.{onwards, openAfter}
 use Rattle.blocks.proofs.WalkIsGrammar.{accepts, accepted}
 use Rattle.blocks.proofs.Reach.{reached, leads-reaches}
 
 -- what one step says: it goes on past no END, is refused for the class's own reason, and finishes at END
-abbrev Says : Class → Next → Type 0
-Says c (go ks) = isEnd c ≡ false
+abbrev pub Says : Class → Next → Type 0
+Says c (go ks) = endsStream c ≡ false
 Says c (bad reason) = reason ≡ nestingReason c
-Says c finish = isEnd c ≡ true
+Says c finish = endsStream c ≡ true
 
 says-pick : (c : Class) (test : Bool) (x y : Next) → Says c x → Says c y → Says c (pick test x y)
 says-pick c true x y h j = h
 says-pick c false x y h j = j
 
-says-end : (c : Closer) (test : Bool) → isEnd (Closes c) ≡ test → Says (Closes c) (pick test finish (bad BLOCK))
+says-end : (c : Closer) (test : Bool) → endsStream (Closes c) ≡ test → Says (Closes c) (pick test finish (bad BLOCK))
 says-end c true e = e
 says-end c false e = refl
 
 -- END closes no block
-end-closes-none : (k : Kind) → closes End k ≡ false
-end-closes-none (opened If) = refl
-end-closes-none (opened Loop) = refl
-end-closes-none (opened Rep) = refl
-end-closes-none pastElse = refl
+end-closes-none : (k : Kind) (ks : List Kind) → closeAt End (k ∷ ks) ≡ bad BLOCK
+end-closes-none (opened If) ks = refl
+end-closes-none (opened Loop) ks = refl
+end-closes-none (opened Rep) ks = refl
+end-closes-none pastElse ks = refl
 
-says-close : (c : Closer) (k : Kind) (ks : List Kind) → isEnd (Closes c) ≡ false → Says (Closes c) (closeAt c (k ∷ ks))
+says-close : (c : Closer) (k : Kind) (ks : List Kind) → endsStream (Closes c) ≡ false → Says (Closes c) (closeAt c (k ∷ ks))
 says-close c k ks e =
     says-pick (Closes c) (elses c k) (go (pastElse ∷ ks)) (pick (closes c k) (go ks) (bad BLOCK)) e
     (says-pick (Closes c) (closes c k) (go ks) (bad BLOCK) e refl)
 
 says-closer : (c : Closer) (ks : List Kind) → Says (Closes c) (closeAt c ks)
-says-closer c [] = says-end c (isEnd (Closes c)) refl
+says-closer c [] = says-end c (endsStream (Closes c)) refl
 says-closer Else (k ∷ ks) = says-close Else k ks refl
 says-closer EndIf (k ∷ ks) = says-close EndIf k ks refl
 says-closer EndLoop (k ∷ ks) = says-close EndLoop k ks refl
 says-closer EndRep (k ∷ ks) = says-close EndRep k ks refl
-says-closer End (k ∷ ks) = rw (end-closes-none k) refl
+says-closer End (k ∷ ks) = rw (end-closes-none k ks) refl
 
-says : (c : Class) (ks : List Kind) → Says c (step ks c)
-says (One s) ks = says-pick (One s) (stands (length ks) (inLoop ks) s) (go ks) (bad BLOCK) refl refl
+pub says : (c : Class) (ks : List Kind) → Says c (step ks c)
+says (One s) ks = says-pick (One s) (mayStand (length ks) (inLoop ks) s) (go ks) (bad BLOCK) refl refl
 says (Opens o) ks = says-pick (Opens o) (ltb (length ks) mostOpen) (go (opened o ∷ ks)) (bad DEPTH) refl refl
 says (Closes c) ks = says-closer c ks
 
@@ -71,7 +72,7 @@ RowSays cs (go ks) = ended cs ≡ false
 RowSays cs (bad reason) = Unit
 RowSays cs finish = ended cs ≡ true
 
-row-more : (c : Class) (cs : List Class) → isEnd c ≡ false → (x : Next) → RowSays cs x → RowSays (c ∷ cs) x
+row-more : (c : Class) (cs : List Class) → endsStream c ≡ false → (x : Next) → RowSays cs x → RowSays (c ∷ cs) x
 row-more c cs e (go ks) h = rw e h
 row-more c cs e (bad reason) h = tt
 row-more c cs e finish h = rw e h
@@ -90,7 +91,7 @@ row-says (c ∷ cs) ks = row-first c cs (λ next. openAfter next cs) (λ next. r
 
 -- where a walk w past a row of classes comes to, with b behind them
 abbrev Comes : ℕ → Cut → Verdict → Next → Type 0
-Comes n b w (go ks) = w ≡ walk n b ks
+Comes n b w (go ks) = w ≡ nesting n b ks
 Comes n b w (bad reason) = (r : Refusal) × (w ≡ Refused r)
 Comes n b w finish = w ≡ atEnd n b
 
@@ -98,14 +99,14 @@ behind-end : {cs : List Class} {a b : Cut} → Leads cs a b → (n : ℕ) (next 
 behind-end nothing n next = refl
 behind-end (first {p = p} l) n next = (refusal TAIL p, refl)
 
-comes-first : {cs : List Class} {a b : Cut} → Leads cs a b → (n p : ℕ) → ((ks : List Kind) → Comes n b (walk n a ks) (openAfter ks cs)) →
-    (x : Next) → Comes n b (onNext x n p a (λ next. walk n a next)) (onwards x cs (λ next. openAfter next cs))
+comes-first : {cs : List Class} {a b : Cut} → Leads cs a b → (n p : ℕ) → ((ks : List Kind) → Comes n b (nesting n a ks) (openAfter ks cs)) →
+    (x : Next) → Comes n b (onNext x n p a (λ next. nesting n a next)) (onwards x cs (λ next. openAfter next cs))
 comes-first l n p h (go ks) = h ks
 comes-first l n p h (bad reason) = (refusal reason p, refl)
 comes-first {cs} l n p h finish = behind-end l n (λ next. openAfter next cs)
 
-comes : {cs : List Class} {a b : Cut} → Leads cs a b → (n : ℕ) (ks : List Kind) → Comes n b (walk n a ks) (openAfter ks cs)
-unfolding walk openAfter
+comes : {cs : List Class} {a b : Cut} → Leads cs a b → (n : ℕ) (ks : List Kind) → Comes n b (nesting n a ks) (openAfter ks cs)
+unfolding nesting openAfter
 comes nothing n ks = refl
 comes (first {c = c} {p = p} l) n ks = comes-first l n p (λ next. comes l n next) (step ks c)
 
@@ -131,6 +132,10 @@ open-append (c ∷ cs) ds ks ls e = append-first c cs ds ks ls (λ ms f. open-ap
 
 -- every way that the walk can go on can be completed: the open blocks are closed, innermost first, and END follows
 
+abbrev closerAt : Kind → Closer
+closerAt (opened o) = closerOf o
+closerAt pastElse = EndIf
+
 closings : List Kind → Cut
 closings [] = then (Closes End) 0 (out 0)
 closings (k ∷ ks) = then (Closes (closerAt k)) 0 (closings ks)
@@ -141,8 +146,8 @@ own-closer (opened Loop) ks = refl
 own-closer (opened Rep) ks = refl
 own-closer pastElse ks = refl
 
-closings-walk : (n : ℕ) (ks : List Kind) → walk n (closings ks) ks ≡ Accepted n
-unfolding walk closings
+closings-walk : (n : ℕ) (ks : List Kind) → nesting n (closings ks) ks ≡ Accepted n
+unfolding nesting closings
 closings-walk n [] = refl
 closings-walk n (k ∷ ks) = rw (own-closer k ks) (closings-walk n ks)
 
@@ -166,14 +171,14 @@ begins-open cs ks e =
 pub begins-whole : (cs : List Class) → openAfter [] cs ≡ finish → Begins cs
 begins-whole cs e =
     let l = laid-leads cs (out 0) in
-    let w : walk 0 (laid cs (out 0)) [] ≡ Accepted 0 = rw e at (comes l 0 []) in
+    let w : nesting 0 (laid cs (out 0)) [] ≡ Accepted 0 = rw e at (comes l 0 []) in
     (laid cs (out 0), out 0, l, accepted 0 0 (laid cs (out 0)) w .1)
 
 -- what the walk refuses begins none
 pub begins-none : (cs : List Class) (reason : Reason) → openAfter [] cs ≡ bad reason → Begins cs → ⊥
 begins-none cs reason e b =
-    let w : (r : Refusal) × (walk 0 (b .0) [] ≡ Refused r) = rw e at (comes (b .2) 0 []) in
-    let yes-to : walk 0 (b .0) [] ≡ Accepted 0 = accepts (b .3 .2) 0 in
+    let w : (r : Refusal) × (nesting 0 (b .0) [] ≡ Refused r) = rw e at (comes (b .2) 0 []) in
+    let yes-to : nesting 0 (b .0) [] ≡ Accepted 0 = accepts (b .3 .2) 0 in
     let not-both : Refused (w .0) ≡ Accepted 0 = sym (w .1) ∙ yes-to in
     let z : _≡_ {A = ℕ} 0 1 = cc in absurd (omega arith)
 
@@ -183,31 +188,31 @@ step-reason c ks reason e = rw e at (says c ks)
 
 module _ (n : ℕ) {cs : List Class} {a : Cut} {c : Class} {p : ℕ} {b : Cut} (leads : Leads cs a (then c p b)) where
   -- a step that refuses refuses the stream there
-  step-refuses : (ks : List Kind) (reason : Reason) → openAfter [] cs ≡ go ks → step ks c ≡ bad reason → walk n a [] ≡ Refused (refusal reason p)
-  unfolding walk
+  step-refuses : (ks : List Kind) (reason : Reason) → openAfter [] cs ≡ go ks → step ks c ≡ bad reason → nesting n a [] ≡ Refused (refusal reason p)
+  unfolding nesting
   step-refuses ks reason e s =
-      let w : walk n a [] ≡ walk n (then c p b) ks = reached (leads-reaches leads [] ks e) n in
+      let w : nesting n a [] ≡ nesting n (then c p b) ks = reached (leads-reaches leads [] ks e) n in
       w ∙ rw s
 
   -- where the walk refuses a nesting, what stands before begins a lawful stream, and with the instruction refused it begins none
   pub refused-none-begins : (ks : List Kind) (reason : Reason) → openAfter [] cs ≡ go ks → step ks c ≡ bad reason →
-      (walk n a [] ≡ Refused (refusal reason p)) × (reason ≡ nestingReason c) × Begins cs × (Begins (cs ++ c ∷ []) → ⊥)
+      (nesting n a [] ≡ Refused (refusal reason p)) × (reason ≡ nestingReason c) × Begins cs × (Begins (cs ++ c ∷ []) → ⊥)
   unfolding openAfter
   refused-none-begins ks reason e s =
       (step-refuses ks reason e s, step-reason c ks reason s, begins-open cs ks e, begins-none (cs ++ c ∷ []) reason (open-append cs (c ∷ []) [] ks e ∙ rw s))
 
   -- an END with a block open is BLOCK
-  pub end-in-block : (k : Kind) (ks : List Kind) → c ≡ Closes End → openAfter [] cs ≡ go (k ∷ ks) → walk n a [] ≡ Refused (refusal BLOCK p)
-  end-in-block k ks isend e = step-refuses (k ∷ ks) BLOCK e (rw (isend, end-closes-none k))
+  pub end-in-block : (k : Kind) (ks : List Kind) → c ≡ Closes End → openAfter [] cs ≡ go (k ∷ ks) → nesting n a [] ≡ Refused (refusal BLOCK p)
+  end-in-block k ks isend e = step-refuses (k ∷ ks) BLOCK e (rw isend (end-closes-none k ks))
 
   module _ (before : Begins cs) (through : Begins (cs ++ c ∷ []) → ⊥) where
-    refused-step : (ks : List Kind) → openAfter [] cs ≡ go ks → (x : Next) → step ks c ≡ x → walk n a [] ≡ Refused (refusal (nestingReason c) p)
+    refused-step : (ks : List Kind) → openAfter [] cs ≡ go ks → (x : Next) → step ks c ≡ x → nesting n a [] ≡ Refused (refusal (nestingReason c) p)
     unfolding openAfter
     refused-step ks e (go ls) s = absurd (through (begins-open (cs ++ c ∷ []) ls (open-append cs (c ∷ []) [] ks e ∙ rw s)))
     refused-step ks e finish s = absurd (through (begins-whole (cs ++ c ∷ []) (open-append cs (c ∷ []) [] ks e ∙ rw s)))
     refused-step ks e (bad reason) s = rw (sym (step-reason c ks reason s)) (step-refuses ks reason e s)
 
-    refused-row : (x : Next) → openAfter [] cs ≡ x → walk n a [] ≡ Refused (refusal (reasonAfter cs c) p)
+    refused-row : (x : Next) → openAfter [] cs ≡ x → nesting n a [] ≡ Refused (refusal (reasonAfter cs c) p)
     refused-row (go ks) e =
         let e′ : ended cs ≡ false = rw e at (row-says cs []) in
         rw e′ (refused-step ks e (step ks c) refl)
@@ -218,5 +223,5 @@ module _ (n : ℕ) {cs : List Class} {a : Cut} {c : Class} {p : ℕ} {b : Cut} (
 
     -- where what stands before begins a lawful stream, and with this instruction it begins none, the walk refuses there:
     -- TAIL behind END, DEPTH at an opener, BLOCK at any other
-    pub none-begins-refused : walk n a [] ≡ Refused (refusal (reasonAfter cs c) p)
+    pub none-begins-refused : nesting n a [] ≡ Refused (refusal (reasonAfter cs c) p)
     none-begins-refused = refused-row (openAfter [] cs) refl

@@ -6,7 +6,7 @@ use native.Mathlib.Omega.{arith}
 use lib.Dec.{ltb}
 use Rattle.paper.specs.Notation.{pick}
 use Rattle.paper.specs.Numbers.{refusal}
-use Rattle.paper.specs.Blocks.{Cut, out, wrong, then, stands, loopsIn, mostOpen}
+use Rattle.paper.specs.Blocks.{Cut, out, wrong, then, mayStand, loopsIn, mostOpen}
 use Rattle.paper.specs.Walk.{Kind, opened, pastElse, closes, elses}
 use Rattle.paper.specs.declared.Class.{Class}
 use Rattle.paper.specs.declared.Class.the-variants.{One, Opens, Closes}
@@ -74,7 +74,7 @@ mutual
   pub leaves-one : (most depth : ℕ) (inLoop : Bool) (c : Class) (p : ℕ) (a : Cut) → ItemLeaves (fuel a + 3) (item most depth inLoop c p a)
   leaves-one zero depth inLoop c p a = tt
   leaves-one (suc most) depth inLoop (One s) p a =
-      leaves-pick (fuel a + 3) (stands depth inLoop s) (passed a) (refused (refusal BLOCK p)) (omega arith) tt
+      leaves-pick (fuel a + 3) (mayStand depth inLoop s) (passed a) (refused (refusal BLOCK p)) (omega arith) tt
   leaves-one (suc most) depth inLoop (Opens o) p a =
       leaves-pick (fuel a + 3) (ltb depth mostOpen) (block most depth inLoop o a) (refused (refusal DEPTH p))
       (wider-item (fuel a) (fuel a + 3) (omega arith) (block most depth inLoop o a) (leaves-block most depth inLoop o a)) tt
@@ -163,7 +163,7 @@ item-more depth inLoop c p a = same-one (fuel a) (suc (fuel a)) depth inLoop c p
 
 -- one instruction stands where its rule lets it
 pub item-one : (depth : ℕ) (inLoop : Bool) (s : Single) (p : ℕ) (a : Cut) →
-    itemOf depth inLoop (One s) p a ≡ pick (stands depth inLoop s) (passed a) (refused (refusal BLOCK p))
+    itemOf depth inLoop (One s) p a ≡ pick (mayStand depth inLoop s) (passed a) (refused (refusal BLOCK p))
 unfolding item
 item-one depth inLoop s p a = item-more depth inLoop (One s) p a
 
@@ -193,20 +193,6 @@ pub block-if : (depth : ℕ) (inLoop : Bool) (a : Cut) →
     blockOf depth inLoop If a ≡ onFirst If (bodyOf (suc depth) inLoop a) (λ b. bodyOf (suc depth) inLoop b)
 block-if depth inLoop a = block-opened depth inLoop If a
 
-no-else-loop : (c : Closer) → elses c (opened Loop) ≡ false
-no-else-loop Else = refl
-no-else-loop EndIf = refl
-no-else-loop EndLoop = refl
-no-else-loop EndRep = refl
-no-else-loop End = refl
-
-no-else-rep : (c : Closer) → elses c (opened Rep) ≡ false
-no-else-rep Else = refl
-no-else-rep EndIf = refl
-no-else-rep EndLoop = refl
-no-else-rep EndRep = refl
-no-else-rep End = refl
-
 first-is-last : (o : Opener) (second : Cut → BodyEnd) → ((c : Closer) → elses c (opened o) ≡ false) → (e : BodyEnd) →
     onFirst o e second ≡ onLast (opened o) e
 first-is-last o second h (stopped c p a) = rw (h c)
@@ -215,9 +201,9 @@ first-is-last o second h (broken r) = refl
 -- LOOP: the body ends at ENDLOOP
 pub block-loop : (depth : ℕ) (inLoop : Bool) (a : Cut) → blockOf depth inLoop Loop a ≡ onLast (opened Loop) (bodyOf (suc depth) true a)
 block-loop depth inLoop a =
-    block-opened depth inLoop Loop a ∙ first-is-last Loop (λ b. bodyOf (suc depth) inLoop b) no-else-loop (bodyOf (suc depth) true a)
+    block-opened depth inLoop Loop a ∙ first-is-last Loop (λ b. bodyOf (suc depth) inLoop b) (λ c. refl) (bodyOf (suc depth) true a)
 
 -- REP: the body ends at ENDREP
 pub block-rep : (depth : ℕ) (inLoop : Bool) (a : Cut) → blockOf depth inLoop Rep a ≡ onLast (opened Rep) (bodyOf (suc depth) true a)
 block-rep depth inLoop a =
-    block-opened depth inLoop Rep a ∙ first-is-last Rep (λ b. bodyOf (suc depth) inLoop b) no-else-rep (bodyOf (suc depth) true a)
+    block-opened depth inLoop Rep a ∙ first-is-last Rep (λ b. bodyOf (suc depth) inLoop b) (λ c. refl) (bodyOf (suc depth) true a)

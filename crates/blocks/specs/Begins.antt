@@ -2,10 +2,9 @@
 use Prim.Native.Nat.{ℕ}
 use mathlib.Core.Bool.{Bool, false, _||_}
 use mathlib.Core.List.{List, [], _∷_}
-use lib.Dec.{eqb}
 use Rattle.paper.specs.Notation.{pick}
 use Rattle.paper.specs.Blocks.{Cut, out, then, Body}
-use Rattle.paper.specs.Walk.{closerNumber}
+use Rattle.paper.specs.Walk.{isEnd}
 use Rattle.paper.specs.declared.Class.{Class}
 use Rattle.paper.specs.declared.Class.the-variants.{One, Opens, Closes}
 use Rattle.paper.specs.declared.Closer.the-variants.{End}
@@ -25,15 +24,15 @@ pub data Leads : List Class → Cut → Cut → Type 0 where
 abbrev pub Begins : List Class → Type 0
 Begins cs = (a : Cut) × (b : Cut) × Leads cs a b × Lawful a
 
-abbrev pub isEnd : Class → Bool
-isEnd (One s) = false
-isEnd (Opens o) = false
-isEnd (Closes c) = eqb (closerNumber c) (closerNumber End)
+abbrev pub endsStream : Class → Bool
+endsStream (One s) = false
+endsStream (Opens o) = false
+endsStream (Closes c) = isEnd c
 
 -- END stands among these classes
 abbrev pub ended : List Class → Bool
 ended [] = false
-ended (c ∷ cs) = isEnd c || ended cs
+ended (c ∷ cs) = endsStream c || ended cs
 
 -- why no instruction of this class may stand at a place: DEPTH, "a 25th block would open", of an opener, and BLOCK, "nesting rule broken,
 -- or END with a block open", of any other

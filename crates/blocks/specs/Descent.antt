@@ -1,11 +1,11 @@
 -- The grammar as a descent: what a body, an item and a block take, or the refusal.
 use Prim.Native.Nat.{ℕ, zero, suc}
 use mathlib.Core.Bool.{Bool, false}
-use lib.Dec.{eqb, ltb}
+use lib.Dec.{ltb}
 use Rattle.paper.specs.Notation.{pick}
 use Rattle.paper.specs.Numbers.{refusal}
-use Rattle.paper.specs.Blocks.{Cut, out, wrong, then, stands, loopsIn, mostOpen}
-use Rattle.paper.specs.Walk.{Kind, opened, pastElse, closerNumber, closes, elses, atEnd}
+use Rattle.paper.specs.Blocks.{Cut, out, wrong, then, mayStand, loopsIn, mostOpen}
+use Rattle.paper.specs.Walk.{Kind, opened, pastElse, isEnd, closes, elses, atEnd}
 use Rattle.paper.specs.declared.Class.{Class}
 use Rattle.paper.specs.declared.Class.the-variants.{One, Opens, Closes}
 use Rattle.paper.specs.declared.Opener.{Opener}
@@ -57,7 +57,7 @@ unfoldable mutual
 
   pub item : ℕ → ℕ → Bool → Class → ℕ → Cut → ItemEnd
   item zero depth inLoop c p a = refused (refusal RUN-OUT 0)
-  item (suc most) depth inLoop (One s) p a = pick (stands depth inLoop s) (passed a) (refused (refusal BLOCK p))
+  item (suc most) depth inLoop (One s) p a = pick (mayStand depth inLoop s) (passed a) (refused (refusal BLOCK p))
   item (suc most) depth inLoop (Opens o) p a = pick (ltb depth mostOpen) (block most depth inLoop o a) (refused (refusal DEPTH p))
   item (suc most) depth inLoop (Closes c) p a = closer c p a
 
@@ -86,7 +86,7 @@ blockOf depth inLoop o a = block (fuel a) depth inLoop o a
 
 -- "a stream is a body and END"
 abbrev pub onStream : ℕ → BodyEnd → Verdict
-onStream count (stopped c p a) = pick (eqb (closerNumber c) (closerNumber End)) (atEnd count a) (Refused (refusal BLOCK p))
+onStream count (stopped c p a) = pick (isEnd c) (atEnd count a) (Refused (refusal BLOCK p))
 onStream count (broken r) = Refused r
 
 -- the verdict of the descent, where a yes gives this count

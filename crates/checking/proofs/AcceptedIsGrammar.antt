@@ -7,13 +7,15 @@ use native.Mathlib.Omega.{arith}
 use lib.ListN.{length, getD}
 use Rattle.paper.specs.Numbers.{told}
 use Rattle.paper.specs.Versions.{named}
-use Rattle.paper.specs.Stream.{cutFrom, count, walked, lengthLaid, verdict, checked}
+use Rattle.paper.specs.Stream.{cutFrom, walked, lengthLaid, verdict, checked}
 use Rattle.paper.specs.declared.Version.{Version}
 use Rattle.paper.specs.declared.Named.{Named}
 use Rattle.paper.specs.declared.Named.the-variants.{Known, Unknown}
 use Rattle.paper.specs.declared.Refusal.{Refusal}
 use Rattle.paper.specs.declared.Verdict.the-variants.{Accepted, Refused}
 use Rattle.blocks.proofs.WalkIsGrammar.{accepts, accepted}
+use Rattle.blocks.specs.Nesting.{count}
+use Rattle.blocks.proofs.Counting.{walked-nesting}
 use Rattle.checking.specs.Accepted.{Grammatical}
 use Rattle.checking.proofs.Whole.{verdict-length, verdict-version, verdict-walked}
 use Rattle.paper.proofs.OneToOne.{same-verdict}
@@ -24,9 +26,8 @@ unlike e = let z : _≡_ {A = ℕ} 0 1 = cc in absurd (omega arith)
 module _ (stream : List ℕ) (n : ℕ) where
   walked-accepted : (v : Version) → lengthLaid (length stream) ≡ true → named (getD stream 0 0) ≡ Known v → walked v stream ≡ Accepted n →
       Grammatical stream n
-  unfolding walked
   walked-accepted v laid names e =
-      let given = accepted (count (cutFrom v stream 1)) n (cutFrom v stream 1) e in
+      let given = accepted (count (cutFrom v stream 1)) n (cutFrom v stream 1) (sym (walked-nesting v stream) ∙ e) in
       record {
         laid = laid;
         version = v;
@@ -50,9 +51,9 @@ module _ (stream : List ℕ) (n : ℕ) where
   accepted-is-grammar e = laid-accepted (lengthLaid (length stream)) refl e
 
   pub grammar-is-accepted : Grammatical stream n → verdict stream ≡ Accepted n
-  unfolding walked
   grammar-is-accepted g =
       verdict-walked stream (g .version) (g .laid) (g .names)
+      ∙ walked-nesting (g .version) stream
       ∙ accepts (g .body) (count (cutFrom (g .version) stream 1)) ∙ ap Accepted (sym (g .counted))
 
   -- the same of what a check tells

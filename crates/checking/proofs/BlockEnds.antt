@@ -10,8 +10,8 @@ use lib.ListN.{length}
 use Rattle.paper.specs.Notation.{pick}
 use Rattle.paper.specs.Numbers.{refusal}
 use Rattle.paper.specs.Blocks.{loopsIn, closerOf}
-use Rattle.paper.specs.Walk.{closerNumber, opened, pastElse, elses, closes}
-use Rattle.paper.specs.Stream.{cutFrom, counts, count}
+use Rattle.paper.specs.Walk.{opened, closesOpener, pastElse, elses, closes, counts}
+use Rattle.paper.specs.Stream.{cutFrom}
 use Rattle.paper.specs.declared.Version.{Version}
 use Rattle.paper.specs.declared.Class.the-variants.{Closes}
 use Rattle.paper.specs.declared.Opener.{Opener}
@@ -23,10 +23,12 @@ use Rattle.paper.specs.declared.Reason.the-variants.{Block as BLOCK}
 use Rattle.blocks.specs.Descent
 use Rattle.blocks.specs.Descent.{stopped, broken, passed, refused, onLast, onFirst, bodyOf, blockOf}
 use Rattle.blocks.proofs.Unfold.{block-opened}
+use Rattle.blocks.specs.Nesting.{count}
 use Rattle.checking.specs.declared.BodyEnd.{BodyEnd}
 use Rattle.checking.specs.declared.BodyEnd.the-variants.{Stopped, Broken}
 use Rattle.checking.specs.declared.ItemEnd.{ItemEnd}
 use Rattle.checking.specs.declared.ItemEnd.the-variants.{Passed, Refused}
+use Rattle.checking.specs.Closers.{closerNumber}
 use Rattle.checking.specs.Ends.{bodyEnd, itemEnd, Stops, BodyWithin, BlockWithin, BodyIs, BlockIs, Low, lastEnd}
 
 differ : {A : Type 0} → false ≡ true → A
@@ -49,6 +51,24 @@ else-test Rep EndLoop = refl
 else-test Rep EndRep = refl
 else-test Rep End = refl
 
+-- a block's own closer
+own-test : (o : Opener) (c : Closer) → eqb (closerNumber c) (closerNumber (closerOf o)) ≡ closesOpener c o
+own-test If Else = refl
+own-test If EndIf = refl
+own-test If EndLoop = refl
+own-test If EndRep = refl
+own-test If End = refl
+own-test Loop Else = refl
+own-test Loop EndIf = refl
+own-test Loop EndLoop = refl
+own-test Loop EndRep = refl
+own-test Loop End = refl
+own-test Rep Else = refl
+own-test Rep EndIf = refl
+own-test Rep EndLoop = refl
+own-test Rep EndRep = refl
+own-test Rep End = refl
+
 last-if : (e : Descent.BodyEnd) → onLast (opened If) e ≡ onLast pastElse e
 last-if (stopped c p a) = refl
 last-if (broken r) = refl
@@ -57,15 +77,15 @@ last-if (broken r) = refl
 else-only : (o : Opener) (c : Closer) → elses c (opened o) ≡ true →
     ((n : ℕ) → counts (Closes c) n ≡ suc n) × ((e : Descent.BodyEnd) → onLast (opened o) e ≡ onLast pastElse e)
 else-only If Else e = ((λ n. refl), last-if)
-else-only Loop Else e = differ e
-else-only Rep Else e = differ e
-else-only o EndIf e = differ e
-else-only o EndLoop e = differ e
-else-only o EndRep e = differ e
-else-only o End e = differ e
+else-only If EndIf e = differ e
+else-only If EndLoop e = differ e
+else-only If EndRep e = differ e
+else-only If End e = differ e
+else-only Loop c e = differ e
+else-only Rep c e = differ e
 
 -- the closer of a block counts
-own-counts : (o : Opener) (c : Closer) → eqb (closerNumber c) (closerNumber (closerOf o)) ≡ true → (n : ℕ) → counts (Closes c) n ≡ suc n
+own-counts : (o : Opener) (c : Closer) → closesOpener c o ≡ true → (n : ℕ) → counts (Closes c) n ≡ suc n
 own-counts o Else e n = refl
 own-counts o EndIf e n = refl
 own-counts o EndLoop e n = refl
@@ -81,7 +101,7 @@ module _ (v : Version) (s : List ℕ) (o : Opener) (at : ℕ) where
   either-end false p next n = refl
 
   last-end : (e : BodyEnd) → itemEnd v s at (lastEnd (closerNumber (closerOf o)) e) ≡ onLast (opened o) (bodyEnd v s e)
-  last-end (Stopped c p next n) = either-end (closes c (opened o)) p next n
+  last-end (Stopped c p next n) = rw (own-test o c) (either-end (closes c (opened o)) p next n)
   last-end (Broken r) = refl
 
   module _ (m place k : ℕ) (after : at ≤ place) (same : k + count (cutFrom v s place) ≡ m + count (cutFrom v s at)) where
@@ -97,7 +117,7 @@ module _ (v : Version) (s : List ℕ) (o : Opener) (at : ℕ) where
     closed-within c p next n h false e = tt
 
     last-within : (e : BodyEnd) → BodyWithin v s place k e → BlockWithin v s at m (lastEnd (closerNumber (closerOf o)) e)
-    last-within (Stopped c p next n) h = closed-within c p next n h (closes c (opened o)) refl
+    last-within (Stopped c p next n) h = rw (own-test o c) (closed-within c p next n h (closes c (opened o)) refl)
     last-within (Broken r) h = tt
 
 -- a body that stops

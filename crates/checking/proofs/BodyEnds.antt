@@ -7,12 +7,13 @@ use native.Mathlib.Nat.{add-zero}
 use native.Mathlib.Omega.{arith}
 use lib.ListN.{length}
 use Rattle.paper.specs.Blocks.{Cut, out, wrong, then}
-use Rattle.paper.specs.Stream.{cutFrom, count}
+use Rattle.paper.specs.Stream.{cutFrom}
 use Rattle.paper.specs.declared.Version.{Version}
 use Rattle.paper.specs.declared.Closer.{Closer}
 use Rattle.paper.specs.declared.Refusal.{Refusal}
 use Rattle.blocks.specs.Descent.{onItem, bodyOf}
 use Rattle.blocks.proofs.Unfold.{body-out, body-wrong, body-then}
+use Rattle.blocks.specs.Nesting.{count}
 use Rattle.stretches.specs.Stretch.{toldAt, isPlain, nextAt, Leads, here, past}
 use Rattle.stretches.proofs.Stretches.{plain-from}
 use Rattle.checking.specs.declared.BodyEnd.the-variants.{Stopped, Broken}

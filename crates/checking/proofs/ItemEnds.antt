@@ -10,8 +10,8 @@ use lib.ListN.{length, drop, length-drop, drop-of-length-le}
 use borrow.Author.Tests.{lt-ltb, le-ltb, ltb-true, ltb-false, ne-eqb}
 use Rattle.paper.specs.Numbers.{refusal}
 use Rattle.paper.specs.Instruction.{judged}
-use Rattle.paper.specs.Blocks.{then, isZero, stands, mostOpen}
-use Rattle.paper.specs.Stream.{cutFrom, counts, count}
+use Rattle.paper.specs.Blocks.{then, isZero, mayStand, mostOpen}
+use Rattle.paper.specs.Stream.{cutFrom}
 use Rattle.paper.specs.declared.Version.{Version}
 use Rattle.paper.specs.declared.Class.{Class}
 use Rattle.paper.specs.declared.Class.the-variants.{One, Opens, Closes}
@@ -23,10 +23,12 @@ use Rattle.paper.specs.declared.Refusal.{Refusal}
 use Rattle.paper.specs.declared.Reason.the-variants.{RunOut as RUN-OUT, Block as BLOCK, Depth as DEPTH}
 use Rattle.paper.specs.declared.Judged.{Judged}
 use Rattle.paper.specs.declared.Judged.the-variants.{Good, Refused as Wrong}
+use Rattle.paper.specs.Walk.{counts}
 use Rattle.blocks.specs.Descent
 use Rattle.blocks.specs.Descent.{refused, itemOf, blockOf}
 use Rattle.blocks.proofs.Cutting.{cut-none, cut-at}
 use Rattle.blocks.proofs.Unfold.{item-one, item-opens, item-closes}
+use Rattle.blocks.specs.Nesting.{count}
 use Rattle.told.specs.Numbered.{judgedFrom}
 use Rattle.stretches.specs.Stretch.{toldAt}
 use Rattle.told.proofs.Numbers.{judged-back}
@@ -97,7 +99,7 @@ module _ (v : Version) {s : List ℕ} {depth at m told : ℕ} (begun : Begins s 
     unfolding count
     counted = ap count cut
 
-    pub item-passed : {inLoop b : Bool} {x : Single} {t : ℕ} → class ≡ One x → b ≡ stands depth inLoop x → b ≡ true → t ≡ tallyOf x →
+    pub item-passed : {inLoop b : Bool} {x : Single} {t : ℕ} → class ≡ One x → b ≡ mayStand depth inLoop x → b ≡ true → t ≡ tallyOf x →
         ItemIs v s depth inLoop at m (Passed (at + 1 + size) (m + t))
     item-passed {inLoop} {b} {x} {t} g stood held k =
         record {
@@ -110,7 +112,7 @@ module _ (v : Version) {s : List ℕ} {depth at m told : ℕ} (begun : Begins s 
           };
         }
 
-    pub item-barred : {inLoop b : Bool} {x : Single} {r : ItemEnd} → class ≡ One x → b ≡ stands depth inLoop x → b ≡ false →
+    pub item-barred : {inLoop b : Bool} {x : Single} {r : ItemEnd} → class ≡ One x → b ≡ mayStand depth inLoop x → b ≡ false →
         r ≡ Refused (refusal BLOCK at) → ItemIs v s depth inLoop at m r
     item-barred {inLoop} {b} {x} g stood failed k =
         rw k (record {

@@ -13,7 +13,7 @@ use Rattle.paper.specs.Versions.{named}
 use Rattle.paper.specs.Instruction.{judged}
 use Rattle.paper.specs.Blocks.{Cut}
 use Rattle.paper.specs.Walk.{atEnd}
-use Rattle.paper.specs.Stream.{cutOne, cutFrom, count, walked, lengthLaid, verdict}
+use Rattle.paper.specs.Stream.{cutOne, cutFrom, walked, lengthLaid, verdict}
 use Rattle.paper.specs.declared.Version.{Version}
 use Rattle.paper.specs.declared.Named.the-variants.{Known, Unknown}
 use Rattle.paper.specs.declared.Closer.{Closer}
@@ -26,6 +26,8 @@ use Rattle.paper.specs.declared.Verdict.the-variants.{Accepted, Refused}
 use Rattle.blocks.specs.Descent.{stopped, bodyOf, onStream, descended}
 use Rattle.blocks.proofs.Cutting.{cut-none, cut-at}
 use Rattle.blocks.proofs.WalkIsGrammar.{descent-is-walk}
+use Rattle.blocks.specs.Nesting.{count}
+use Rattle.blocks.proofs.Counting.{walked-nesting}
 use Rattle.checking.specs.declared.BodyEnd.{BodyEnd}
 use Rattle.checking.specs.declared.BodyEnd.the-variants.{Stopped, Broken}
 use Rattle.checking.specs.Ends.{bodyEnd, Stops, BodyWithin, BodyIs, ending}
@@ -61,8 +63,8 @@ module _ (v : Version) (s : List ℕ) where
   stream-end End p next n h = at-end p next n h (ltb next (length s)) refl
 
   whole : onStream (count (cutFrom v s 1)) (bodyOf 0 false (cutFrom v s 1)) ≡ walked v s
-  unfolding walked descended
-  whole = descent-is-walk (count (cutFrom v s 1)) (cutFrom v s 1)
+  unfolding descended
+  whole = descent-is-walk (count (cutFrom v s 1)) (cutFrom v s 1) ∙ sym (walked-nesting v s)
 
 module _ {v : Version} {s : List ℕ} {r : BodyEnd} (h : BodyIs v s 0 false 1 0 r) where
   pub stream-stopped : {c : Closer} {p next n : ℕ} → r ≡ Stopped c p next n → ending (length s) c p next n ≡ walked v s

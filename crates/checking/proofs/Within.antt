@@ -9,8 +9,8 @@ use lib.ListN.{length, take, drop, length-take, length-drop}
 use borrow.Author.Tests.{leb-true}
 use Rattle.paper.specs.Notation.{pick}
 use Rattle.paper.specs.Numbers.{refusal}
-use Rattle.paper.specs.OperandTokens.{relative, tokenAt, bringsRelative, typeOf, leftOver}
-use Rattle.paper.specs.Dcl.{declaredAt, usageLaid, refusedAs, onDeclared, declaration}
+use Rattle.paper.specs.OperandTokens.{tokenAt, bringsRelative, typeOf, leftOver, refusedOperands}
+use Rattle.paper.specs.Dcl.{declaredAt, usageLaid, onDeclared, declaration}
 use Rattle.paper.specs.InstructionToken.{opcodeOf}
 use Rattle.paper.specs.Blocks.{classOf}
 use Rattle.paper.specs.Instruction.{Head, broken, end, comment, dcl, operation, head, onToken, relativeToken, operand, onTaken, operands, onOperands, within, onHead, judged}
@@ -27,6 +27,7 @@ use Rattle.paper.specs.declared.Operands.{Operands}
 use Rattle.paper.specs.declared.Operands.the-variants.{Fit, Refused as unfit}
 use Rattle.paper.specs.declared.Judged.{Judged}
 use Rattle.paper.specs.declared.Judged.the-variants.{Good, Refused}
+use Rattle.paper.specs.Places.{Place, relative}
 
 -- no position is past the last token of the stated size, which is the `most`th behind the first
 module _ (most : ℕ) where
@@ -52,7 +53,7 @@ module _ (most : ℕ) where
   relative-within v offset (token ∷ rest) h =
       on-token (tokenAt v relative token) offset (suc (suc (length rest))) (Took 2) (omega arith) (omega arith)
 
-  operand-within : (v : Version) (place offset : ℕ) (tokens : List ℕ) → offset + length tokens ≤ most + 1 →
+  operand-within : (v : Version) (place : Place) (offset : ℕ) (tokens : List ℕ) → offset + length tokens ≤ most + 1 →
       TakenWithin (length tokens) (operand v place offset tokens)
   unfolding operand
   operand-within v place offset [] h = omega arith
@@ -71,7 +72,7 @@ module _ (most : ℕ) where
   on-taken left (Took n) next h j = j n h
   on-taken left (refused r) next h j = h
 
-  operands-within : (v : Version) (places : List ℕ) (offset : ℕ) (tokens : List ℕ) → offset + length tokens ≤ most + 1 →
+  operands-within : (v : Version) (places : List Place) (offset : ℕ) (tokens : List ℕ) → offset + length tokens ≤ most + 1 →
       OperandsWithin (operands v places offset tokens)
   unfolding operands
   operands-within v [] offset tokens h = left-over tokens
@@ -81,7 +82,7 @@ module _ (most : ℕ) where
       (λ n le. operands-within v rest (offset + n) (drop n tokens) (omega (arith, length-drop n tokens)))
 
   on-declared : (token : Token) (laid : Bool) (rest : List ℕ) → 2 ≤ most →
-      OperandsWithin (onDeclared token (pick laid (leftOver rest) (refusedAs OPERAND 1)))
+      OperandsWithin (onDeclared token (pick laid (leftOver rest) (refusedOperands OPERAND 1)))
   on-declared good true rest h = left-over rest
   on-declared good false rest h = omega arith
   on-declared (bad reason) laid rest h = h

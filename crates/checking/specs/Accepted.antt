@@ -6,11 +6,12 @@ use mathlib.Core.List.{List}
 use lib.ListN.{length, getD}
 use Rattle.paper.specs.Versions.{named}
 use Rattle.paper.specs.Blocks.{out, then, Body}
-use Rattle.paper.specs.Stream.{cutFrom, count, lengthLaid}
+use Rattle.paper.specs.Stream.{cutFrom, lengthLaid}
 use Rattle.paper.specs.declared.Version.{Version}
 use Rattle.paper.specs.declared.Named.the-variants.{Known}
 use Rattle.paper.specs.declared.Class.the-variants.{Closes}
 use Rattle.paper.specs.declared.Closer.the-variants.{End}
+use Rattle.blocks.specs.Nesting.{count}
 
 -- a lawful length, a version, a body and END with nothing behind, and the number of the instructions
 pub record Grammatical (stream : List ℕ) (n : ℕ) : Type 0 where

@@ -8,8 +8,8 @@ use lib.ListN.{length}
 use Rattle.paper.specs.Notation.{pick}
 use Rattle.paper.specs.Numbers.{refusal}
 use Rattle.paper.specs.Blocks.{Cut, out, wrong, then, mostOpen}
-use Rattle.paper.specs.Walk.{closerNumber}
-use Rattle.paper.specs.Stream.{cutFrom, counts, count}
+use Rattle.paper.specs.Walk.{counts}
+use Rattle.paper.specs.Stream.{cutFrom}
 use Rattle.paper.specs.declared.Version.{Version}
 use Rattle.paper.specs.declared.Class.the-variants.{Closes}
 use Rattle.paper.specs.declared.Single.{Single}
@@ -22,6 +22,8 @@ use Rattle.paper.specs.declared.Verdict.{Verdict}
 use Rattle.paper.specs.declared.Verdict.the-variants.{Accepted, Refused as no-verdict}
 use Rattle.blocks.specs.Descent
 use Rattle.blocks.specs.Descent.{stopped, broken, passed, closer, refused, bodyOf, itemOf, blockOf}
+use Rattle.checking.specs.Closers.{closerNumber}
+use Rattle.blocks.specs.Nesting.{count}
 use Rattle.checking.specs.declared.BodyEnd.{BodyEnd}
 use Rattle.checking.specs.declared.BodyEnd.the-variants.{Stopped, Broken}
 use Rattle.checking.specs.declared.ItemEnd.{ItemEnd}

@@ -3,8 +3,8 @@ ghost use mathlib.Core.Path.{_≡_};
 ghost use Prim.Native.Nat.{_+_, _≤_};
 ghost use lib.ListN.{length};
 ghost use Rattle.paper.specs.Numbers.{refusal, told};
-ghost use Rattle.paper.specs.Blocks.{stands, loopsIn, closerOf};
-ghost use Rattle.paper.specs.Walk.{closerNumber};
+ghost use Rattle.paper.specs.Blocks.{mayStand, loopsIn, closerOf};
+ghost use Rattle.checking.specs.Closers.{closerNumber};
 ghost use Rattle.paper.specs.Stream.{walked, checked};
 ghost use Rattle.stretches.specs.Stretch.{toldAt};
 ghost use Rattle.checking.specs.Ends.{Begins, BodyIs, ItemIs, BlockIs, Low, tallyOf, lastEnd, ending};
@@ -65,7 +65,7 @@ fn refused(reason: Reason, position: usize) -> Verdict
 }
 
 fn may_stand(single: Single, depth: usize, in_loop: bool) -> bool
-    ensures { λ r. ⌜ r ≡ stands depth in_loop single ⌝ }
+    ensures { λ r. ⌜ r ≡ mayStand depth in_loop single ⌝ }
 {
     match single {
         Single::Comment => true,

@@ -11,7 +11,7 @@ use Rattle.paper.specs.Numbers.{refusal}
 use Rattle.paper.specs.Versions.{named}
 use Rattle.paper.specs.Instruction.{judged}
 use Rattle.paper.specs.Blocks.{Cut, out, wrong, then, closerOf, Body, none, more, Item, one, block, Block, closed, withElse}
-use Rattle.paper.specs.Stream.{cutOne, cutting, cutFrom, counts, count, walked, lengthLaid, onNamed, verdict}
+use Rattle.paper.specs.Stream.{cutOne, cutting, cutFrom, walked, lengthLaid, onNamed, verdict}
 use Rattle.paper.specs.declared.Version.{Version}
 use Rattle.paper.specs.declared.Named.{Named}
 use Rattle.paper.specs.declared.Named.the-variants.{Known, Unknown}
@@ -24,8 +24,11 @@ use Rattle.paper.specs.declared.Class.the-variants.{One, Opens, Closes}
 use Rattle.paper.specs.declared.Judged.{Judged}
 use Rattle.paper.specs.declared.Judged.the-variants.{Good, Refused}
 use Rattle.paper.specs.declared.Verdict.the-variants.{Accepted, Refused as no-verdict}
-use Rattle.blocks.specs.Begins.{isEnd}
+use Rattle.paper.specs.Walk.{counts}
+use Rattle.blocks.specs.Begins.{endsStream}
 use Rattle.blocks.proofs.WalkIsGrammar.{accepts, accepted}
+use Rattle.blocks.specs.Nesting.{count}
+use Rattle.blocks.proofs.Counting.{walked-nesting}
 use Rattle.cutting.specs.Cuttings.{joined, Alone, Chunks, last, next, Cutting, cutOf, instructions, LawfulStream}
 use Rattle.cutting.proofs.OwnTokens.{apart, good-within, good-alone}
 
@@ -79,7 +82,7 @@ Either false A B = B
 abbrev Ends : Cut → Type 0
 Ends (out p) = ⊥
 Ends (wrong p r) = ⊥
-Ends (then c p a) = Either (isEnd c) (IsOut a) (Ends a)
+Ends (then c p a) = Either (endsStream c) (IsOut a) (Ends a)
 
 ends-closer : (o : Opener) (p : ℕ) (a : Cut) → Ends a → Ends (then (Closes (closerOf o)) p a)
 ends-closer If p a e = e
@@ -116,7 +119,7 @@ out-nothing (suc most) v [] p h e = refl
 out-nothing (suc most) v (token ∷ rest) p h e =
     not-out (judged v (token ∷ rest)) p (λ n. cutting most v (drop n (token ∷ rest)) (p + n)) e
 
-end-class : (class : Class) → isEnd class ≡ true → class ≡ Closes End
+end-class : (class : Class) → endsStream class ≡ true → class ≡ Closes End
 end-class (One s) e = apart (cc)
 end-class (Opens o) e = apart (cc)
 end-class (Closes Else) e = apart (cc)
@@ -133,7 +136,7 @@ module _ (v : Version) (first : ℕ) (rest : List ℕ) where
         let there : length (take size rest) ≡ size = length-take-le size rest (omega arith) in
         rw there (rw (append-nil (take size rest)) at (good-alone size class v (first ∷ rest) [] good))
 
-    on-class : (isLast : Bool) → isEnd class ≡ isLast → (a : Cut) → (IsOut a → drop size rest ≡ []) →
+    on-class : (isLast : Bool) → endsStream class ≡ isLast → (a : Cut) → (IsOut a → drop size rest ≡ []) →
         (Ends a → HasCutting v (drop size rest)) →
         Either isLast (IsOut a) (Ends a) → HasCutting v (first ∷ rest)
     on-class true t a stop go e = (
@@ -151,7 +154,7 @@ module _ (v : Version) (first : ℕ) (rest : List ℕ) where
   on-judged : (judgement : Judged) → judged v (first ∷ rest) ≡ judgement → (p : ℕ) (f : ℕ → Cut) →
       ((n : ℕ) → IsOut (f (suc n)) → drop n rest ≡ []) → ((n : ℕ) → Ends (f (suc n)) → HasCutting v (drop n rest)) →
       Ends (cutOne judgement p f) → HasCutting v (first ∷ rest)
-  on-judged (Good size class) good p f stop go e = on-class size class good (isEnd class) refl (f (suc size)) (stop size) (go size) e
+  on-judged (Good size class) good p f stop go e = on-class size class good (endsStream class) refl (f (suc size)) (stop size) (go size) e
   on-judged (Refused r) good p f stop go e = absurd e
 
 chunks-of : (most : ℕ) (v : Version) (tokens : List ℕ) (p : ℕ) → length tokens ≤ most → Ends (cutting most v tokens p) → HasCutting v tokens
@@ -167,9 +170,9 @@ chunks-of (suc most) v (first ∷ rest) p h e =
 
 module _ (s : List ℕ) (n : ℕ) where
   by-walk : (v : Version) → lengthLaid (length s) ≡ true → named (getD s 0 0) ≡ Known v → walked v s ≡ Accepted n → LawfulStream s n
-  unfolding walked cutFrom
+  unfolding cutFrom
   by-walk v long name e =
-      let w = accepted (count (cutFrom v s 1)) n (cutFrom v s 1) e in
+      let w = accepted (count (cutFrom v s 1)) n (cutFrom v s 1) (sym (walked-nesting v s) ∙ e) in
       let c = chunks-of (length (drop 1 s)) v (drop 1 s) 1 (omega arith) (ends-body (w .1 .2) tt) in
       let same = cut-stream v s (c .0) (c .1) (c .2) in
       record {
@@ -196,7 +199,7 @@ module _ (s : List ℕ) (n : ℕ) where
 
   -- a stream that has such a cutting is accepted, and the verdict gives the number of its instructions
   pub a-cutting-is-accepted : LawfulStream s n → verdict s ≡ Accepted n
-  unfolding verdict walked
+  unfolding verdict
   a-cutting-is-accepted c =
-      rw (c .isLong, c .isNamed, cut-stream (c .version) s (c .chunks) (c .classes) (c .isCutting), count-chunks (c .isCutting .0) 1, c .isCount)
+      rw (c .isLong, c .isNamed, walked-nesting (c .version) s, cut-stream (c .version) s (c .chunks) (c .classes) (c .isCutting), count-chunks (c .isCutting .0) 1, c .isCount)
       (accepts (c .isDerived .2) n)

@@ -7,12 +7,13 @@ use native.Mathlib.Omega.{arith}
 use lib.Dec.{eqb}
 use borrow.Author.Tests.{eqb-true, eqb-false, ne-eqb}
 use Rattle.paper.specs.Notation.{pick}
-use Rattle.paper.specs.OpcodeTable.{Letter, Entry, absent, listed, entryOf, DCL}
-use Rattle.paper.specs.InstructionToken.{opcodeOf, statedSize, bitsLaid, commentOpcode, commentLaid, commentLength, endOpcode, endToken}
-use Rattle.paper.specs.Instruction.{Head, broken, end, comment, dcl, operation, places, headOf, head}
+use Rattle.paper.specs.OpcodeTable.{DCL}
+use Rattle.paper.specs.InstructionToken.{opcodeOf, statedSize, bitsLaid, commentOpcode, commentLaid, commentLength, endOpcode, endToken, isPredicated, withPredicate}
+use Rattle.paper.specs.Instruction.{Head, broken, end, comment, dcl, operation, headOf, head}
 use Rattle.paper.specs.declared.Version.{Version}
 use Rattle.paper.specs.declared.Reason.{Reason}
 use Rattle.paper.specs.declared.Reason.the-variants.{Opcode as OPCODE, Bits as BITS}
+use Rattle.paper.specs.Places.{Entry, absent, listed, entryOf, Place}
 use Rattle.cutting.specs.CutBy.{isComment, isEndToken}
 
 -- a token with another opcode is not END
@@ -26,18 +27,18 @@ module _ (v : Version) (token : ℕ) (P : Head → Type 0) (on-broken : (reason 
     (on-comment : isComment token ≡ true → isEndToken token ≡ false → P (comment (commentLength token)))
     (on-end : isComment token ≡ false → isEndToken token ≡ true → P end)
     (on-dcl : isComment token ≡ false → isEndToken token ≡ false → eqb (opcodeOf token) DCL ≡ true → P (dcl (statedSize token)))
-    (on-operation : (letters : List Letter) → isComment token ≡ false → isEndToken token ≡ false → eqb (opcodeOf token) DCL ≡ false →
-    entryOf v (opcodeOf token) ≡ listed letters → P (operation (places token letters) (statedSize token))) where
-  by-letters : (letters : List Letter) → entryOf v (opcodeOf token) ≡ listed letters → isComment token ≡ false → isEndToken token ≡ false →
+    (on-operation : (places : List Place) → isComment token ≡ false → isEndToken token ≡ false → eqb (opcodeOf token) DCL ≡ false →
+    entryOf v (opcodeOf token) ≡ listed places → P (operation (withPredicate (isPredicated token) places) (statedSize token))) where
+  by-places : (places : List Place) → entryOf v (opcodeOf token) ≡ listed places → isComment token ≡ false → isEndToken token ≡ false →
       (laid isDcl : Bool) → eqb (opcodeOf token) DCL ≡ isDcl →
-      P (pick laid (pick isDcl (dcl (statedSize token)) (operation (places token letters) (statedSize token))) (broken BITS))
-  by-letters letters l c n true true d = on-dcl c n d
-  by-letters letters l c n true false d = on-operation letters c n d l
-  by-letters letters l c n false isDcl d = on-broken BITS
+      P (pick laid (pick isDcl (dcl (statedSize token)) (operation (withPredicate (isPredicated token) places) (statedSize token))) (broken BITS))
+  by-places places l c n true true d = on-dcl c n d
+  by-places places l c n true false d = on-operation places c n d l
+  by-places places l c n false isDcl d = on-broken BITS
 
   by-entry : (entry : Entry) → entryOf v (opcodeOf token) ≡ entry → isComment token ≡ false → isEndToken token ≡ false → P (headOf v token entry)
   by-entry absent l c n = on-broken OPCODE
-  by-entry (listed letters) l c n = by-letters letters l c n (bitsLaid v token letters) (eqb (opcodeOf token) DCL) refl
+  by-entry (listed places) l c n = by-places places l c n (bitsLaid v token places) (eqb (opcodeOf token) DCL) refl
 
   by-tests : (commented laid ending ended : Bool) → isComment token ≡ commented → eqb (opcodeOf token) endOpcode ≡ ending →
       isEndToken token ≡ ended →

@@ -6,10 +6,10 @@ use mathlib.Core.List.{List, [], _∷_, _++_}
 use lib.ListN.{length, take, drop}
 use lib.Seq.{take-length}
 use Rattle.paper.specs.Notation.{pick}
-use Rattle.paper.specs.InstructionToken.{opcodeOf, statedSize}
-use Rattle.paper.specs.OperandTokens.{relative, tokenAt, bringsRelative, typeOf, leftOver}
-use Rattle.paper.specs.Dcl.{declaration, declaredAt, usageLaid, onDeclared, refusedAs}
-use Rattle.paper.specs.Instruction.{places, onToken, relativeToken, operand, onTaken, operands, onOperands, within, onHead, judged}
+use Rattle.paper.specs.InstructionToken.{opcodeOf, statedSize, isPredicated, withPredicate}
+use Rattle.paper.specs.OperandTokens.{tokenAt, bringsRelative, typeOf, leftOver, refusedOperands}
+use Rattle.paper.specs.Dcl.{declaration, declaredAt, usageLaid, onDeclared}
+use Rattle.paper.specs.Instruction.{onToken, relativeToken, operand, onTaken, operands, onOperands, within, onHead, judged}
 use Rattle.paper.specs.Blocks.{classOf}
 use Rattle.paper.specs.declared.Version.{Version}
 use Rattle.paper.specs.declared.Reason.the-variants.{Operand as OPERAND}
@@ -22,6 +22,7 @@ use Rattle.paper.specs.declared.Class.{Class}
 use Rattle.paper.specs.declared.Judged.the-variants.{Good}
 use Rattle.paper.specs.Stream.{verdict}
 use Rattle.paper.specs.declared.Verdict.the-variants.{Accepted}
+use Rattle.paper.specs.Places.{Place, relative}
 use Rattle.cutting.specs.Claim.{claim}
 use Rattle.cutting.specs.Cuttings.{Alone, Cutting}
 use Rattle.cutting.specs.ByOperands.{placesTake, byPlaces, byOperands}
@@ -30,7 +31,7 @@ use Rattle.cutting.proofs.FirstToken.{by-first}
 use Rattle.cutting.proofs.CutBy.{cut-by}
 use Rattle.cutting.proofs.AcceptedIsACutting.{accepted-is-a-cutting}
 
-module _ (v : Version) (ps : List ℕ) (offset token : ℕ) (other : List ℕ)
+module _ (v : Version) (ps : List Place) (offset token : ℕ) (other : List ℕ)
     (behind : (o : ℕ) (tokens : List ℕ) → operands v ps o tokens ≡ Fit → placesTake ps (tokens ++ other) ≡ length tokens) where
   on-relative : (next : ℕ) (rest : List ℕ) (answer : Token) →
       onTaken (onToken answer (offset + 1) (took 2)) (λ n. operands v ps (offset + n) (drop n (token ∷ next ∷ rest))) ≡ Fit →
@@ -48,7 +49,7 @@ module _ (v : Version) (ps : List ℕ) (offset token : ℕ) (other : List ℕ)
   on-operand good true (next ∷ rest) e = ap (λ (n : ℕ). suc (suc n)) (on-relative next rest (tokenAt v relative next) e)
 
 -- operands that fit their tokens take just these, whatever stands behind them
-places-take : (v : Version) (ps : List ℕ) (offset : ℕ) (tokens other : List ℕ) → operands v ps offset tokens ≡ Fit →
+places-take : (v : Version) (ps : List Place) (offset : ℕ) (tokens other : List ℕ) → operands v ps offset tokens ≡ Fit →
     placesTake ps (tokens ++ other) ≡ length tokens
 unfolding operands operand
 places-take v [] offset [] other e = refl
@@ -59,7 +60,7 @@ places-take v (place ∷ ps) offset (token ∷ rest) other e =
 
 -- a lawful DCL has two tokens behind its first
 
-two : (answer : Token) (laid : Bool) (rest : List ℕ) → onDeclared answer (pick laid (leftOver rest) (refusedAs OPERAND 1)) ≡ Fit → length rest ≡ 0
+two : (answer : Token) (laid : Bool) (rest : List ℕ) → onDeclared answer (pick laid (leftOver rest) (refusedOperands OPERAND 1)) ≡ Fit → length rest ≡ 0
 two (bad reason) laid rest e = apart (cc)
 two good false rest e = apart (cc)
 two good true [] e = refl
@@ -83,8 +84,8 @@ places-right v first rest other class alone =
     (λ c n e k. rw c k)
     (λ c n e k. rw (c, n) k)
     (λ c n d e k. rw (c, n, d) (declared-two v rest (fits (λ tokens. declaration v tokens) k e)))
-    (λ letters c n d l e k.
-    rw (c, n, d, l) (places-take v (places first letters) 1 rest other (fits (λ tokens. operands v (places first letters) 1 tokens) k e)))
+    (λ places c n d l e k.
+    rw (c, n, d, l) (places-take v (withPredicate (isPredicated first) places) 1 rest other (fits (λ tokens. operands v (withPredicate (isPredicated first) places) 1 tokens) k e)))
     alone (good-claim (length rest) class v first rest alone .0)
   where
     fits : (answer : List ℕ → Operands) → statedSize first ≡ length rest →

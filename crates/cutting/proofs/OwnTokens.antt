@@ -120,4 +120,4 @@ sixteen v token =
     (λ c n none. absurd (none (commentLength token) refl))
     (λ c n none. omega arith)
     (λ c n d none. small token)
-    (λ letters c n d l none. small token)
+    (λ places c n d l none. small token)

@@ -30,7 +30,7 @@ size-right v first rest other class alone =
     (λ c n e. rw c)
     (λ c n e. rw (c, n))
     (λ c n d e. rw (c, n))
-    (λ letters c n d l e. rw (c, n)) alone
+    (λ places c n d l e. rw (c, n)) alone
     ∙ good-claim (length rest) class v first rest alone .0
 
 -- cutting by stated sizes alone gives the chunks of a cutting

@@ -4,15 +4,15 @@ use mathlib.Core.List.{List, [], _∷_}
 use lib.Dec.{eqb}
 use lib.ListN.{drop}
 use Rattle.paper.specs.Notation.{pick}
-use Rattle.paper.specs.OpcodeTable.{Entry, absent, listed, entryOf, DCL}
-use Rattle.paper.specs.InstructionToken.{opcodeOf, commentLength}
+use Rattle.paper.specs.OpcodeTable.{DCL}
+use Rattle.paper.specs.InstructionToken.{opcodeOf, commentLength, isPredicated, withPredicate}
 use Rattle.paper.specs.OperandTokens.{bringsRelative}
-use Rattle.paper.specs.Instruction.{places}
 use Rattle.paper.specs.declared.Version.{Version}
+use Rattle.paper.specs.Places.{Entry, absent, listed, entryOf, Place}
 use Rattle.cutting.specs.CutBy.{Rule, isComment, isEndToken, cutWholeBy}
 
 -- each place takes one token, and one more where that token brings a relative one
-abbrev pub placesTake : List ℕ → List ℕ → ℕ
+abbrev pub placesTake : List Place → List ℕ → ℕ
 placesTake [] tokens = 0
 placesTake (place ∷ places) [] = 0
 placesTake (place ∷ places) (token ∷ rest) =
@@ -21,7 +21,7 @@ placesTake (place ∷ places) (token ∷ rest) =
 -- what the opcode's row says of the places decides
 abbrev pub entryTakes : ℕ → List ℕ → Entry → ℕ
 entryTakes first rest absent = 0
-entryTakes first rest (listed letters) = placesTake (places first letters) rest
+entryTakes first rest (listed places) = placesTake (withPredicate (isPredicated first) places) rest
 
 -- a comment takes its length, END nothing, DCL its usage token and its destination, anything else what its places take
 abbrev pub byPlaces : Version → Rule

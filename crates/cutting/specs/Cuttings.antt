@@ -7,14 +7,15 @@ use lib.ListN.{length, drop, getD}
 use Rattle.paper.specs.Versions.{named}
 use Rattle.paper.specs.Instruction.{judged}
 use Rattle.paper.specs.Blocks.{Cut, out, then}
-use Rattle.paper.specs.Stream.{counts, lengthLaid}
+use Rattle.paper.specs.Stream.{lengthLaid}
 use Rattle.paper.specs.declared.Version.{Version}
 use Rattle.paper.specs.declared.Named.the-variants.{Known}
 use Rattle.paper.specs.declared.Class.{Class}
 use Rattle.paper.specs.declared.Class.the-variants.{Closes}
 use Rattle.paper.specs.declared.Closer.the-variants.{End}
 use Rattle.paper.specs.declared.Judged.the-variants.{Good}
-use Rattle.blocks.specs.Begins.{isEnd, Lawful}
+use Rattle.paper.specs.Walk.{counts}
+use Rattle.blocks.specs.Begins.{endsStream, Lawful}
 
 -- the chunks, one behind the other
 abbrev pub joined : List (List ℕ) → List ℕ
@@ -29,7 +30,7 @@ Alone v first rest class = judged v (first ∷ rest) ≡ Good (length rest) clas
 pub data Chunks (v : Version) : List (List ℕ) → List Class → Type 0 where
   last : {first : ℕ} {rest : List ℕ} → Alone v first rest (Closes End) → Chunks v ((first ∷ rest) ∷ []) (Closes End ∷ [])
   next : {first : ℕ} {rest : List ℕ} {class : Class} {chunks : List (List ℕ)} {classes : List Class} →
-      Alone v first rest class → isEnd class ≡ false → Chunks v chunks classes → Chunks v ((first ∷ rest) ∷ chunks) (class ∷ classes)
+      Alone v first rest class → endsStream class ≡ false → Chunks v chunks classes → Chunks v ((first ∷ rest) ∷ chunks) (class ∷ classes)
 
 abbrev pub Cutting : Version → List ℕ → List (List ℕ) → List Class → Type 0
 Cutting v tokens chunks classes = Chunks v chunks classes × (joined chunks ≡ tokens)

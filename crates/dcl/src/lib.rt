@@ -1,8 +1,9 @@
 // The operands of DCL: document 01, "DCL".
 ghost use mathlib.Core.Path.{_≡_};
 ghost use Rattle.paper.specs.Notation.{pick};
-ghost use Rattle.paper.specs.OperandTokens.{typeOf};
-ghost use Rattle.paper.specs.Dcl.{samplerForm, plainForm, usageForm, vertexUsage, pixelUsage, samplerTypes, plainTypes, usageTypes, formLaid, refusedAs, isDeclared, positionOrFace, faceLaid, declaredAt, onDeclared, usageLaid, declaration};
+ghost use Rattle.paper.specs.OperandTokens.{typeOf, refusedOperands};
+ghost use Rattle.paper.specs.Dcl.{samplerForm, plainForm, usageForm, vertexUsage, pixelUsage, samplerTypes, plainTypes, usageTypes, formLaid, isDeclared, positionOrFace, faceLaid, declaredAt, onDeclared, usageLaid, declaration};
+ghost use Rattle.versions.specs.Sets.{setOf};
 use paper::Operands;
 use paper::Reason;
 use paper::Refusal;
@@ -23,7 +24,7 @@ const SAMPLER: u32 = 1 << 10;
 const MISCELLANEOUS: u32 = 1 << 17;
 
 fn sampler_types(version: Version) -> u32
-    ensures { λ r. ⌜ r ≡ samplerTypes version ⌝ }
+    ensures { λ r. ⌜ r ≡ setOf (samplerTypes version) ⌝ }
 {
     match version {
         Version::V2 => NONE,
@@ -34,7 +35,7 @@ fn sampler_types(version: Version) -> u32
 }
 
 fn plain_types(version: Version) -> u32
-    ensures { λ r. ⌜ r ≡ plainTypes version ⌝ }
+    ensures { λ r. ⌜ r ≡ setOf (plainTypes version) ⌝ }
 {
     match version {
         Version::V2 => NONE,
@@ -45,7 +46,7 @@ fn plain_types(version: Version) -> u32
 }
 
 fn usage_types(version: Version) -> u32
-    ensures { λ r. ⌜ r ≡ usageTypes version ⌝ }
+    ensures { λ r. ⌜ r ≡ setOf (usageTypes version) ⌝ }
 {
     match version {
         Version::V2 => INPUT,
@@ -149,19 +150,19 @@ fn declared_at(version: Version, destination: u32) -> Token
 {
     let laid = layout::typed_destination_laid(version, destination);
     let face = face_laid(version, destination);
-    let declared = is_declared(version, destination);
-    layout::layout_then_type(laid & face, declared)
+    let typed = is_declared(version, destination);
+    layout::layout_then_type(laid & face, typed)
 }
 
 fn refused(reason: Reason, position: usize) -> Operands
-    ensures { λ r. ⌜ r ≡ refusedAs reason position ⌝ }
+    ensures { λ r. ⌜ r ≡ refusedOperands reason position ⌝ }
 {
     Operands::Refused(Refusal { reason, position })
 }
 
 // The destination is judged first, then U, then what is left over.
 fn conclude(destination: Token, usage_laid: bool, no_more: bool) -> Operands
-    ensures { λ r. ⌜ r ≡ onDeclared destination (pick «usage_laid» (pick «no_more» Operands.Fit (refusedAs Reason.Size 0)) (refusedAs Reason.Operand 1)) ⌝ }
+    ensures { λ r. ⌜ r ≡ onDeclared destination (pick «usage_laid» (pick «no_more» Operands.Fit (refusedOperands Reason.Size 0)) (refusedOperands Reason.Operand 1)) ⌝ }
 {
     match destination {
         Token::Good => {}

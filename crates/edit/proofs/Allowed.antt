@@ -21,7 +21,7 @@ use Rattle.paper.specs.declared.Reason.the-variants.{Length as LENGTH, Version 
 use Rattle.paper.specs.declared.Verdict.the-variants.{Refused as no-verdict}
 use Rattle.edit.specs.declared.Edited.{Edited}
 use Rattle.edit.specs.declared.Edited.the-variants.{Joined, Accepted}
-use Rattle.edit.specs.Boundaries.{stands, standingAt, isBoundary}
+use Rattle.edit.specs.Boundaries.{standsWith, standingAt, isBoundary}
 use Rattle.edit.specs.Edit.{splice, newLength, placed, fits, spliced, refusedAs, onNamed, edited, editedIn}
 use Rattle.edit.proofs.Standing.{apart, ahead, standing-comes}
 use Rattle.edit.proofs.Prefix.{splice-length}
@@ -38,8 +38,8 @@ pub record Allowed (room : ℕ) (old : List ℕ) (i j : ℕ) (run : List ℕ) (v
 pub record Places (v : Version) (old : List ℕ) (i j : ℕ) : Type 0 where
   pub first : List Kind
   pub last : List Kind
-  pub first-stands : standingAt v old i ≡ stands first
-  pub last-stands : standingAt v old j ≡ stands last
+  pub first-stands : standingAt v old i ≡ standsWith first
+  pub last-stands : standingAt v old j ≡ standsWith last
   pub behind : 1 ≤ i
   pub order : i ≤ j
   pub before : j < length old

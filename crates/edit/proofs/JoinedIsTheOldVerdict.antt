@@ -11,8 +11,8 @@ use Rattle.paper.specs.Notation.{pick}
 use Rattle.paper.specs.Numbers.{refusal}
 use Rattle.paper.specs.Instruction.{judged}
 use Rattle.paper.specs.Blocks.{Cut, out, wrong, then}
-use Rattle.paper.specs.Walk.{Kind, Next, go, bad, finish, step, atEnd, onNext, walk}
-use Rattle.paper.specs.Stream.{cutOne, cutting, cutFrom, count, walked, verdict}
+use Rattle.paper.specs.Walk.{Kind, Next, go, bad, finish, step, atEnd, onNext}
+use Rattle.paper.specs.Stream.{cutOne, cutting, cutFrom, walked, verdict}
 use Rattle.paper.specs.declared.Version.{Version}
 use Rattle.paper.specs.declared.Reason.{Reason}
 use Rattle.paper.specs.declared.Reason.the-variants.{RunOut as RUN-OUT, Tail as TAIL}
@@ -24,8 +24,10 @@ use Rattle.paper.specs.declared.Verdict.the-variants.{Accepted, Refused}
 use Rattle.blocks.specs.Reach.{moved, movedRefusal}
 use Rattle.blocks.proofs.Reach.{reached, joined}
 use Rattle.blocks.proofs.Cutting.{cut-moved}
+use Rattle.blocks.specs.Nesting.{nesting, count}
+use Rattle.blocks.proofs.Counting.{walked-nesting}
 use Rattle.edit.specs.declared.Edited.the-variants.{Joined}
-use Rattle.edit.specs.Boundaries.{stands, standingAt}
+use Rattle.edit.specs.Boundaries.{standsWith, standingAt}
 use Rattle.edit.specs.Edit.{splice, newLength, meetsAtEnd, onVerdict, spliced, edited, carried}
 use Rattle.edit.proofs.Standing.{apart, startOf, start-of, standing-reached}
 use Rattle.edit.proofs.SameBlocks.{met}
@@ -40,13 +42,16 @@ drop-splice old i j run h =
 -- Where the states meet at the run's end, the walk of the splice is the walk of the old stream, its positions moved from j to the run's end.
 pub joined-walked : (v : Version) (old : List ℕ) (i j : ℕ) (run : List ℕ) → i ≤ j → meetsAtEnd v old i j run ≡ true →
     walked v (splice old i j run) ≡ moved (count (cutFrom v (splice old i j run) 1)) (λ p. i + length run + (p - j)) (walked v old)
-unfolding walked meetsAtEnd
+unfolding meetsAtEnd
 joined-walked v old i j run order e =
     let m = met (standingAt v old j) (standingAt v (splice old i j run) (i + length run)) e in
     let a = standing-reached v old j (m .0) (m .1) in
     let b = standing-reached v (splice old i j run) (i + length run) (m .0) (m .2) in
     let same = cut-moved v old (splice old i j run) j (i + length run) (sym (drop-splice old i j run (omega arith))) in
-    joined (count (cutFrom v old 1)) (count (cutFrom v (splice old i j run) 1)) (λ p. i + length run + (p - j)) (a .2) (rw same at (b .2))
+    let f : ℕ → ℕ = λ p. i + length run + (p - j) in
+    walked-nesting v (splice old i j run)
+    ∙ joined (count (cutFrom v old 1)) (count (cutFrom v (splice old i j run) 1)) f (a .2) (rw same at (b .2))
+    ∙ ap (moved (count (cutFrom v (splice old i j run) 1)) f) (sym (walked-nesting v old))
 
 -- a walk from p on is refused at p or later
 position-of : (reason : Reason) (p : ℕ) (r : Refusal) → Refused (refusal reason p) ≡ Refused r → p ≡ r .position
@@ -65,15 +70,15 @@ late-next n p rest on r h later (bad reason) e = omega (arith, position-of reaso
 late-next n p rest on r h later finish e = omega (arith, late-end n rest r e)
 
 late-one : (n p : ℕ) (rest : ℕ → Cut) (ks : List Kind) (r : Refusal) → ((m : ℕ) → p ≤ startOf (rest m)) →
-    ((m : ℕ) (ls : List Kind) → walk n (rest m) ls ≡ Refused r → p ≤ r .position) →
-    (judgement : Judged) → walk n (cutOne judgement p rest) ks ≡ Refused r → p ≤ r .position
-unfolding walk
+    ((m : ℕ) (ls : List Kind) → nesting n (rest m) ls ≡ Refused r → p ≤ r .position) →
+    (judgement : Judged) → nesting n (cutOne judgement p rest) ks ≡ Refused r → p ≤ r .position
+unfolding nesting
 late-one n p rest ks r h later (Good size class) e =
-    late-next n p (rest (suc size)) (λ next. walk n (rest (suc size)) next) r (h (suc size)) (later (suc size)) (step ks class) e
+    late-next n p (rest (suc size)) (λ next. nesting n (rest (suc size)) next) r (h (suc size)) (later (suc size)) (step ks class) e
 late-one n p rest ks r h later (unfit x) e = omega (arith, position-of (x .reason) (p + x .position) r e)
 
-late : (most n : ℕ) (v : Version) (tokens : List ℕ) (p : ℕ) (ks : List Kind) (r : Refusal) → walk n (cutting most v tokens p) ks ≡ Refused r → p ≤ r .position
-unfolding cutting walk
+late : (most n : ℕ) (v : Version) (tokens : List ℕ) (p : ℕ) (ks : List Kind) (r : Refusal) → nesting n (cutting most v tokens p) ks ≡ Refused r → p ≤ r .position
+unfolding cutting nesting
 late zero n v tokens p ks r e = omega (arith, position-of RUN-OUT p r e)
 late (suc most) n v [] p ks r e = omega (arith, position-of RUN-OUT p r e)
 late (suc most) n v (token ∷ rest) p ks r e =
@@ -83,11 +88,11 @@ late (suc most) n v (token ∷ rest) p ks r e =
     (judged v (token ∷ rest)) e
 
 -- A stream with a boundary at j is refused at j or later.
-pub refused-behind : (v : Version) (s : List ℕ) (j : ℕ) (ks : List Kind) (r : Refusal) → standingAt v s j ≡ stands ks → walked v s ≡ Refused r → j ≤ r .position
-unfolding walked cutFrom
+pub refused-behind : (v : Version) (s : List ℕ) (j : ℕ) (ks : List Kind) (r : Refusal) → standingAt v s j ≡ standsWith ks → walked v s ≡ Refused r → j ≤ r .position
+unfolding cutFrom
 refused-behind v s j ks r b e =
     let c = standing-reached v s j ks b in
-    late (length (drop j s)) (count (cutFrom v s 1)) v (drop j s) j ks r (sym (reached (c .2) (count (cutFrom v s 1))) ∙ e)
+    late (length (drop j s)) (count (cutFrom v s 1)) v (drop j s) j ks r (sym (reached (c .2) (count (cutFrom v s 1))) ∙ sym (walked-nesting v s) ∙ e)
 
 -- "the position moved by m - (j - i)", without a number below zero
 pub carried-by : (i j m p : ℕ) → i ≤ j → j ≤ p → carried i j m p + (j - i) ≡ p + m

@@ -12,7 +12,7 @@ use Rattle.paper.specs.declared.Version.{Version}
 use Rattle.paper.specs.declared.Class.{Class}
 use Rattle.paper.specs.declared.Judged.the-variants.{Good}
 use Rattle.cutting.proofs.OwnTokens.{good-alone}
-use Rattle.edit.specs.Boundaries.{stands, standingAt}
+use Rattle.edit.specs.Boundaries.{standsWith, standingAt}
 use Rattle.edit.specs.Edit.{splice}
 use Rattle.edit.proofs.Standing.{Comes, stays, passes, ahead, comes-standing, standing-comes}
 
@@ -50,7 +50,7 @@ same-comes {v} {s} {t} {q = q} e h (passes {size = size} {class = class} {p = p}
 
 -- Two streams with the same first q tokens, both longer than q: a boundary q of the one is a boundary of the other, with the same blocks open.
 pub same-boundary : (v : Version) (s t : List ℕ) (q : ℕ) (ks : List Kind) → take q s ≡ take q t → q < length t →
-    standingAt v s q ≡ stands ks → standingAt v t q ≡ stands ks
+    standingAt v s q ≡ standsWith ks → standingAt v t q ≡ standsWith ks
 unfolding standingAt
 same-boundary v s t q ks e h b =
     let f = standing-comes v s q ks b in
@@ -66,7 +66,7 @@ module _ (old : List ℕ) (i j : ℕ) (run : List ℕ) (inside : i ≤ length ol
 
 -- The prefix is not walked a second time: the edit's first place is a boundary of the splice too, with the blocks that the old stream has open there.
 pub prefix-stands : (v : Version) (old : List ℕ) (i j : ℕ) (run : List ℕ) (ks : List Kind) → j < length old →
-    standingAt v old i ≡ stands ks → standingAt v (splice old i j run) i ≡ stands ks
+    standingAt v old i ≡ standsWith ks → standingAt v (splice old i j run) i ≡ standsWith ks
 prefix-stands v old i j run ks h b =
     let f = standing-comes v old i ks b in
     same-boundary v old (splice old i j run) i ks (sym (splice-begins old i j run (omega arith)))

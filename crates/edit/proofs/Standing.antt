@@ -18,7 +18,7 @@ use Rattle.paper.specs.declared.Judged.{Judged}
 use Rattle.paper.specs.declared.Judged.the-variants.{Good, Refused}
 use Rattle.blocks.specs.Reach.{Reaches, here, past}
 use Rattle.blocks.proofs.Cutting.{cut-none, cut-at}
-use Rattle.edit.specs.Boundaries.{nowhere, stands, onward, standing, standingAt}
+use Rattle.edit.specs.Boundaries.{nowhere, standsWith, onward, standing, standingAt}
 
 -- two constructors are never equal
 pub apart : {A : Type 0} → _≡_ {A = ℕ} 0 1 → A
@@ -41,7 +41,7 @@ comes-reaches stays = here
 comes-reaches {v} {s} (passes {p = p} j e h c) = rw (cut-at v s p h, j) (past e (comes-reaches c))
 
 -- and what a walk comes to is found standing
-standing-here : (p : ℕ) (ks : List Kind) (rest : ℕ → Cut) (judgement : Judged) → standing p (cutOne judgement p rest) ks ≡ stands ks
+standing-here : (p : ℕ) (ks : List Kind) (rest : ℕ → Cut) (judgement : Judged) → standing p (cutOne judgement p rest) ks ≡ standsWith ks
 unfolding standing
 standing-here p ks rest (Good size class) = rw (eq-eqb p p refl)
 standing-here p ks rest (Refused r) = rw (eq-eqb p p refl)
@@ -52,7 +52,7 @@ unfolding standing
 standing-on class p q ks ls rest h e = rw (ne-eqb p q (λ x. omega arith), e)
 
 pub comes-standing : {v : Version} {s : List ℕ} {p q : ℕ} {ks ls : List Kind} → q < length s → Comes v s p ks q ls →
-    standing q (cutFrom v s p) ks ≡ stands ls
+    standing q (cutFrom v s p) ks ≡ standsWith ls
 comes-standing {v} {s} l (stays {p = p} {ks = ks}) = rw (cut-at v s p l) (standing-here p ks (λ n. cutFrom v s (p + n)) (judged v (drop p s)))
 comes-standing {v} {s} {q = q} l (passes {size = size} {class = class} {p = p} {ks = ks} {ls = ls} j e h c) =
     rw (cut-at v s p h, j) (standing-on class p q ks ls (cutFrom v s (p + suc size)) (omega (arith, ahead c)) e ∙ comes-standing l c)
@@ -62,56 +62,56 @@ abbrev Found : Version → List ℕ → ℕ → List Kind → ℕ → List Kind 
 Found v s p ks q ls = Comes v s p ks q ls × (q < length s)
 
 module _ (v : Version) (s : List ℕ) (q : ℕ) (ls : List Kind) (p : ℕ) (ks : List Kind) (inside : p < length s) where
-  found-here : p ≡ q → stands ks ≡ stands ls → Found v s p ks q ls
+  found-here : p ≡ q → standsWith ks ≡ standsWith ls → Found v s p ks q ls
   found-here at e = let same : ks ≡ ls = cc in rw (← at, ← same) (stays, inside)
 
   module _ (size : ℕ) (class : Class) (judgement : judged v (drop p s) ≡ Good size class)
-      (later : (ms : List Kind) → standing q (cutFrom v s (p + suc size)) ms ≡ stands ls → Found v s (p + suc size) ms q ls) where
-    found-on : (x : Next) → step ks class ≡ x → onward x (λ next. standing q (cutFrom v s (p + suc size)) next) ≡ stands ls → Found v s p ks q ls
+      (later : (ms : List Kind) → standing q (cutFrom v s (p + suc size)) ms ≡ standsWith ls → Found v s (p + suc size) ms q ls) where
+    found-on : (x : Next) → step ks class ≡ x → onward x (λ next. standing q (cutFrom v s (p + suc size)) next) ≡ standsWith ls → Found v s p ks q ls
     found-on (go ms) e h = let l = later ms h in (passes judgement e inside (l .0), l .1)
     found-on (bad reason) e h = apart (cc)
     found-on finish e h = apart (cc)
 
     found-good : (b : Bool) → eqb p q ≡ b →
-        pick b (stands ks) (onward (step ks class) (λ next. standing q (cutFrom v s (p + suc size)) next)) ≡ stands ls → Found v s p ks q ls
+        pick b (standsWith ks) (onward (step ks class) (λ next. standing q (cutFrom v s (p + suc size)) next)) ≡ standsWith ls → Found v s p ks q ls
     found-good true at h = found-here (eqb-true p q at) h
     found-good false at h = found-on (step ks class) refl h
 
-  found-refused : (b : Bool) → eqb p q ≡ b → pick b (stands ks) nowhere ≡ stands ls → Found v s p ks q ls
+  found-refused : (b : Bool) → eqb p q ≡ b → pick b (standsWith ks) nowhere ≡ standsWith ls → Found v s p ks q ls
   found-refused true at h = found-here (eqb-true p q at) h
   found-refused false at h = apart (cc)
 
   found-one : (judgement : Judged) → judged v (drop p s) ≡ judgement →
-      ((n : ℕ) (ms : List Kind) → standing q (cutFrom v s (p + suc n)) ms ≡ stands ls → Found v s (p + suc n) ms q ls) →
-      standing q (cutOne judgement p (λ n. cutFrom v s (p + n))) ks ≡ stands ls → Found v s p ks q ls
+      ((n : ℕ) (ms : List Kind) → standing q (cutFrom v s (p + suc n)) ms ≡ standsWith ls → Found v s (p + suc n) ms q ls) →
+      standing q (cutOne judgement p (λ n. cutFrom v s (p + n))) ks ≡ standsWith ls → Found v s p ks q ls
   unfolding standing
   found-one (Good size class) e later h = found-good size class e (later size) (eqb p q) refl h
   found-one (Refused r) e later h = found-refused (eqb p q) refl h
 
-nothing-found : (v : Version) (s : List ℕ) (p q : ℕ) (ks ls : List Kind) → length s ≤ p → standing q (cutFrom v s p) ks ≡ stands ls → Found v s p ks q ls
+nothing-found : (v : Version) (s : List ℕ) (p q : ℕ) (ks ls : List Kind) → length s ≤ p → standing q (cutFrom v s p) ks ≡ standsWith ls → Found v s p ks q ls
 unfolding standing
-nothing-found v s p q ks ls h e = let none : standing q (out p) ks ≡ stands ls = rw (cut-none v s p h) at e in apart (cc)
+nothing-found v s p q ks ls h e = let none : standing q (out p) ks ≡ standsWith ls = rw (cut-none v s p h) at e in apart (cc)
 
 -- the first number bounds how many tokens are left
 found : (most : ℕ) (v : Version) (s : List ℕ) (p q : ℕ) (ks ls : List Kind) → length s ≤ p + most →
-    standing q (cutFrom v s p) ks ≡ stands ls → Found v s p ks q ls
+    standing q (cutFrom v s p) ks ≡ standsWith ls → Found v s p ks q ls
 found zero v s p q ks ls h e = nothing-found v s p q ks ls (omega arith) e
 found (suc most) v s p q ks ls h e =
     this (leb (length s) p) refl (λ n ms f. found most v s (p + suc n) q ms ls (omega arith) f)
   where
     this : (b : Bool) → leb (length s) p ≡ b →
-        ((n : ℕ) (ms : List Kind) → standing q (cutFrom v s (p + suc n)) ms ≡ stands ls → Found v s (p + suc n) ms q ls) → Found v s p ks q ls
+        ((n : ℕ) (ms : List Kind) → standing q (cutFrom v s (p + suc n)) ms ≡ standsWith ls → Found v s (p + suc n) ms q ls) → Found v s p ks q ls
     this true l later = nothing-found v s p q ks ls (leb-true (length s) p l) e
     this false l later =
         let inside = leb-false (length s) p l in
         found-one v s q ls p ks inside (judged v (drop p s)) refl later (rw (cut-at v s p inside) at e)
 
-pub standing-comes : (v : Version) (s : List ℕ) (q : ℕ) (ks : List Kind) → standingAt v s q ≡ stands ks → Comes v s 1 [] q ks × (q < length s)
+pub standing-comes : (v : Version) (s : List ℕ) (q : ℕ) (ks : List Kind) → standingAt v s q ≡ standsWith ks → Comes v s 1 [] q ks × (q < length s)
 unfolding standingAt
 standing-comes v s q ks e = found (length s) v s 1 q [] ks (omega arith) e
 
 -- What stands at a position is reached by the walk from behind the version on, with those blocks open; the position lies behind the version and before the token count.
-pub standing-reached : (v : Version) (s : List ℕ) (q : ℕ) (ks : List Kind) → standingAt v s q ≡ stands ks →
+pub standing-reached : (v : Version) (s : List ℕ) (q : ℕ) (ks : List Kind) → standingAt v s q ≡ standsWith ks →
     (1 ≤ q) × (q < length s) × Reaches (cutFrom v s 1) [] (cutFrom v s q) ks
 standing-reached v s q ks e = let f = standing-comes v s q ks e in (ahead (f .0), f .1, comes-reaches (f .0))
 
@@ -161,6 +161,6 @@ module _ (v : Version) (s : List ℕ) (q : ℕ) where
 
 -- And an instruction's position that the walk reaches is a boundary, with the blocks that the walk has open there.
 pub reached-standing : (v : Version) (s : List ℕ) (q : ℕ) (ks : List Kind) → q < length s → Reaches (cutFrom v s 1) [] (cutFrom v s q) ks →
-    standingAt v s q ≡ stands ks
+    standingAt v s q ≡ standsWith ks
 unfolding standingAt
 reached-standing v s q ks h r = comes-standing h (reaches-comes v s q r refl 1 refl)

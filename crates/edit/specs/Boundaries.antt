@@ -9,12 +9,13 @@ use Rattle.paper.specs.Blocks.{Cut, out, wrong, then}
 use Rattle.paper.specs.Walk.{Kind, opened, pastElse, Next, go, bad, finish, step}
 use Rattle.paper.specs.Stream.{cutFrom}
 use Rattle.paper.specs.declared.Version.{Version}
+use Rattle.paper.specs.declared.Opener.{Opener}
 use Rattle.paper.specs.declared.Opener.the-variants.{If, Loop, Rep}
 
 -- what a walk has open at a position: it is no boundary, or these blocks, innermost first
 pub data Standing : Type 0 where
   nowhere : Standing
-  stands : List Kind → Standing
+  standsWith : List Kind → Standing
 
 abbrev pub onward : Next → (List Kind → Standing) → Standing
 onward (go ks) next = next ks
@@ -23,30 +24,41 @@ onward finish next = nowhere
 
 unfoldable pub standing : ℕ → Cut → List Kind → Standing
 standing q (out p) ks = nowhere
-standing q (wrong p r) ks = pick (eqb p q) (stands ks) nowhere
-standing q (then c p rest) ks = pick (eqb p q) (stands ks) (onward (step ks c) (λ next. standing q rest next))
+standing q (wrong p r) ks = pick (eqb p q) (standsWith ks) nowhere
+standing q (then c p rest) ks = pick (eqb p q) (standsWith ks) (onward (step ks c) (λ next. standing q rest next))
 
 unfoldable pub standingAt : Version → List ℕ → ℕ → Standing
 standingAt v stream q = standing q (cutFrom v stream 1) []
 
 abbrev pub isBoundary : Standing → Bool
 isBoundary nowhere = false
-isBoundary (stands ks) = true
+isBoundary (standsWith ks) = true
 
 -- "the same open blocks, in order, with the same ELSE marks"
-abbrev pub kindNumber : Kind → ℕ
-kindNumber (opened Loop) = 1
-kindNumber (opened Rep) = 2
-kindNumber (opened If) = 3
-kindNumber pastElse = 4
+abbrev pub sameOpener : Opener → Opener → Bool
+sameOpener If If = true
+sameOpener If Loop = false
+sameOpener If Rep = false
+sameOpener Loop If = false
+sameOpener Loop Loop = true
+sameOpener Loop Rep = false
+sameOpener Rep If = false
+sameOpener Rep Loop = false
+sameOpener Rep Rep = true
+
+abbrev pub sameKind : Kind → Kind → Bool
+sameKind (opened o) (opened p) = sameOpener o p
+sameKind (opened o) pastElse = false
+sameKind pastElse (opened o) = false
+sameKind pastElse pastElse = true
 
 abbrev pub sameBlocks : List Kind → List Kind → Bool
 sameBlocks [] [] = true
 sameBlocks [] (l ∷ ls) = false
 sameBlocks (k ∷ ks) [] = false
-sameBlocks (k ∷ ks) (l ∷ ls) = eqb (kindNumber k) (kindNumber l) && sameBlocks ks ls
+sameBlocks (k ∷ ks) (l ∷ ls) = sameKind k l && sameBlocks ks ls
 
 abbrev pub meets : Standing → Standing → Bool
 meets nowhere s = false
-meets (stands ks) nowhere = false
-meets (stands ks) (stands ls) = sameBlocks ks ls
+meets (standsWith ks) nowhere = false
+meets (standsWith ks) (standsWith ls) = sameBlocks ks ls

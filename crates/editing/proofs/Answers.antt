@@ -16,7 +16,7 @@ use Rattle.paper.specs.declared.Version.{Version}
 use Rattle.paper.specs.declared.Reason.the-variants.{Length as LENGTH, Place as PLACE, Room as ROOM}
 use Rattle.edit.specs.declared.Edited.{Edited}
 use Rattle.edit.specs.declared.Edited.the-variants.{Joined, Accepted, Refused}
-use Rattle.edit.specs.Boundaries.{Standing, nowhere, stands, standingAt}
+use Rattle.edit.specs.Boundaries.{Standing, nowhere, standsWith, standingAt}
 use Rattle.edit.specs.Edit.{splice, newLength, spliced, refusedAs, onNamed, edited, editedIn, heldAfter, bufferAfter}
 use Rattle.edit.proofs.Edited.{the-type}
 use Rattle.edit.proofs.Standing.{reached-standing, standing-reached}
@@ -39,14 +39,14 @@ module _ (v : Version) (old : List ℕ) where
     where
       this : (x : Standing) → standingAt v old q ≡ x → x ≡ nowhere
       this nowhere e = refl
-      this (stands ks) e = absurd (omega (arith, standing-reached v old q ks e .0))
+      this (standsWith ks) e = absurd (omega (arith, standing-reached v old q ks e .0))
 
   pub behind-last : (q : ℕ) → length old ≤ q → standingAt v old q ≡ nowhere
   behind-last q h = this (standingAt v old q) refl
     where
       this : (x : Standing) → standingAt v old q ≡ x → x ≡ nowhere
       this nowhere e = refl
-      this (stands ks) e = absurd (omega (arith, standing-reached v old q ks e .1))
+      this (standsWith ks) e = absurd (omega (arith, standing-reached v old q ks e .1))
 
   module _ (room i j : ℕ) (run : List ℕ) where
     pub no-first : standingAt v old i ≡ nowhere → afterVersion v room old i j run ≡ refusedAs PLACE

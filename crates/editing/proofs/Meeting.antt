@@ -13,7 +13,7 @@ use Rattle.paper.specs.declared.Version.{Version}
 use Rattle.paper.specs.declared.Reason.the-variants.{RunOut as RUN-OUT}
 use Rattle.edit.specs.declared.Edited.{Edited}
 use Rattle.edit.specs.declared.Edited.the-variants.{Joined, Refused}
-use Rattle.edit.specs.Boundaries.{nowhere, stands, standingAt}
+use Rattle.edit.specs.Boundaries.{nowhere, standsWith, standingAt}
 use Rattle.edit.specs.Edit.{splice, newLength, meetsAtEnd, spliced}
 use Rattle.edit.proofs.Standing.{apart, reached-standing}
 use Rattle.edit.proofs.Prefix.{splice-length}
@@ -70,7 +70,7 @@ module _ (v : Version) (old : List ℕ) (first last : State) (run : List ℕ) wh
     as-told : whole ≡ newLength (length old) (first .at) (last .at) (length run)
     as-told = let i = b .inside in let o = b .order in omega arith
 
-    last-stands : standingAt v old (last .at) ≡ stands (b .upto .opened)
+    last-stands : standingAt v old (last .at) ≡ standsWith (b .upto .opened)
     last-stands = reached-standing v old (last .at) (b .upto .opened) (b .inside) (b .upto .reaches)
 
     nowhere-meets : standingAt v stream end ≡ nowhere → Meets false
@@ -78,7 +78,7 @@ module _ (v : Version) (old : List ℕ) (first last : State) (run : List ℕ) wh
     nowhere-meets e = rw (last-stands, e)
 
     module _ (state : State) (h : Stands v stream state) where
-      end-stands : state .at ≡ end → standingAt v stream end ≡ stands (h .opened)
+      end-stands : state .at ≡ end → standingAt v stream end ≡ standsWith (h .opened)
       end-stands e =
           let i = b .inside in
           let inside : state .at < length stream = omega (arith, long) in
@@ -89,7 +89,7 @@ module _ (v : Version) (old : List ℕ) (first last : State) (run : List ℕ) wh
       unfolding meetsAtEnd
       meets-here e same =
           let blocks : h .opened ≡ b .upto .opened = number-same (h .opened) (b .upto .opened) (sym (h .numbered) ∙ same ∙ b .upto .numbered) in
-          meeting (standingAt v old (last .at)) (standingAt v stream end) (b .upto .opened) last-stands (end-stands e ∙ ap stands blocks)
+          meeting (standingAt v old (last .at)) (standingAt v stream end) (b .upto .opened) last-stands (end-stands e ∙ ap standsWith blocks)
 
       -- and with others
       differs-here : state .at ≡ end → (state .kinds ≡ last .kinds → ⊥) → Meets false
@@ -101,7 +101,7 @@ module _ (v : Version) (old : List ℕ) (first last : State) (run : List ℕ) wh
               let t = both-stand (standingAt v old (last .at)) (standingAt v stream end) m in
               let there = last-stands in
               let here = end-stands e in
-              let blocks : stands (h .opened) ≡ stands (b .upto .opened) = sym here ∙ t .2 ∙ sym (t .1) ∙ there in
+              let blocks : standsWith (h .opened) ≡ standsWith (b .upto .opened) = sym here ∙ t .2 ∙ sym (t .1) ∙ there in
               let same : h .opened ≡ b .upto .opened = cc in
               absurd (different (h .numbered ∙ ap numberOf same ∙ sym (b .upto .numbered)))
           this false m = refl

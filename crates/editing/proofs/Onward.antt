@@ -10,7 +10,7 @@ use Rattle.paper.specs.declared.Version.{Version}
 use Rattle.paper.specs.declared.Class.{Class}
 use Rattle.paper.specs.declared.Refusal.{Refusal}
 use Rattle.paper.specs.declared.Judged.the-variants.{Good}
-use Rattle.edit.specs.Boundaries.{Standing, nowhere, stands, standingAt}
+use Rattle.edit.specs.Boundaries.{Standing, nowhere, standsWith, standingAt}
 use Rattle.edit.proofs.Standing.{Comes, stays, passes, apart, ahead, standing-comes, reached-standing}
 use Rattle.walk.specs.declared.State.{State}
 use Rattle.walk.specs.declared.Stepped.the-variants.{On, Done, Refused}
@@ -45,12 +45,12 @@ first-of (passes {size = size} {class = class} {ls = ls} j e l c) h =
 
 module _ (v : Version) (s : List ℕ) (state : State) (h : Stands v s state) (inside : state .at < length s) (fits : length s < 2 ^ 64) where
   -- where the walk stands is a boundary
-  pub stands-here : standingAt v s (state .at) ≡ stands (h .opened)
+  pub stands-here : standingAt v s (state .at) ≡ standsWith (h .opened)
   stands-here = reached-standing v s (state .at) (h .opened) inside (h .reaches)
 
   module _ (t : ℕ) (before : state .at < t) where
     -- a boundary ahead: the step goes on, and not past it
-    goes-on : (ms : List Kind) → standingAt v s t ≡ stands ms → (next : State) × (stepAt v s state ≡ On next) × (next .at ≤ t)
+    goes-on : (ms : List Kind) → standingAt v s t ≡ standsWith ms → (next : State) × (stepAt v s state ≡ On next) × (next .at ≤ t)
     goes-on ms e =
         let here = standing-comes v s (state .at) (h .opened) stands-here .0 in
         let there = standing-comes v s t ms e .0 in
@@ -64,7 +64,7 @@ module _ (v : Version) (s : List ℕ) (state : State) (h : Stands v s state) (in
       where
         this : (x : Standing) → standingAt v s t ≡ x → x ≡ nowhere
         this nowhere e = refl
-        this (stands ms) e = let g = goes-on ms e in absurd (never (g .0) (g .1) (g .2))
+        this (standsWith ms) e = let g = goes-on ms e in absurd (never (g .0) (g .1) (g .2))
 
     -- so there is none where the step passes it, is at its end, or is refused
     pub none-past : (next : State) → stepAt v s state ≡ On next → t < next .at → standingAt v s t ≡ nowhere

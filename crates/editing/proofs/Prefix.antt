@@ -5,17 +5,18 @@ use mathlib.Core.List.{List}
 use native.Mathlib.Nat.{zero-add}
 use native.Mathlib.Omega.{arith}
 use lib.ListN.{length, take, drop}
-use Rattle.paper.specs.Walk.{Kind}
-use Rattle.paper.specs.Stream.{cutFrom, counts, count}
+use Rattle.paper.specs.Walk.{Kind, counts}
+use Rattle.paper.specs.Stream.{cutFrom}
 use Rattle.paper.specs.declared.Version.{Version}
 use Rattle.paper.specs.declared.Class.{Class}
 use Rattle.blocks.proofs.Cutting.{cut-at}
+use Rattle.blocks.specs.Nesting.{count}
 use Rattle.edit.specs.Edit.{splice}
 use Rattle.edit.proofs.Standing.{Comes, stays, passes, ahead, standing-comes, reached-standing, standing-reached}
 use Rattle.edit.proofs.Prefix.{same-part, same-length, same-good, splice-length, splice-begins, prefix-stands}
 use Rattle.walk.specs.declared.State.{State}
 use Rattle.walk.specs.Stands.{Stands}
-use Rattle.walk.proofs.OnStream.{counts-add}
+use Rattle.blocks.proofs.Counting.{counts-add}
 
 counts-on : (class : Class) (k n : ℕ) → counts class (k + n) ≡ counts class k + n
 counts-on class k n = omega (arith, counts-add class 0 (k + n), counts-add class 0 k)

@@ -11,12 +11,12 @@ use lib.Seq.{drop-drop, getD-drop, take-take}
 use borrow.Author.Tests.{ne-eqb, eqb-true, eqb-false, le-leb, lt-leb, leb-true, leb-false}
 use Rattle.paper.specs.Notation.{pick}
 use Rattle.paper.specs.Numbers.{refusal}
-use Rattle.paper.specs.OpcodeTable.{Entry, absent, listed, entryOf, DCL}
-use Rattle.paper.specs.InstructionToken.{opcodeOf, statedSize, commentOpcode, commentLength, commentLaid, endOpcode, endToken, bitsLaid}
-use Rattle.paper.specs.OperandTokens.{typeOf, leftOver}
-use Rattle.paper.specs.Dcl.{declaredAt, usageLaid, refusedAs, onDeclared, declaration}
+use Rattle.paper.specs.OpcodeTable.{DCL}
+use Rattle.paper.specs.InstructionToken.{opcodeOf, statedSize, commentOpcode, commentLength, commentLaid, endOpcode, endToken, isPredicated, withPredicate, bitsLaid}
+use Rattle.paper.specs.OperandTokens.{typeOf, leftOver, refusedOperands}
+use Rattle.paper.specs.Dcl.{declaredAt, usageLaid, onDeclared, declaration}
 use Rattle.paper.specs.Blocks.{classOf}
-use Rattle.paper.specs.Instruction.{Head as Said, broken, end, comment, dcl, operation, places, headOf, head, judged}
+use Rattle.paper.specs.Instruction.{Head as Said, broken, end, comment, dcl, operation, headOf, head, judged}
 use Rattle.paper.specs.declared.Version.{Version}
 use Rattle.paper.specs.declared.Reason.{Reason}
 use Rattle.paper.specs.declared.Class.the-variants.{Closes}
@@ -28,6 +28,7 @@ use Rattle.paper.specs.declared.Operands.{Operands}
 use Rattle.paper.specs.declared.Operands.the-variants.{Refused as unfit}
 use Rattle.paper.specs.declared.Judged.the-variants.{Good, Refused as Unfit}
 use Rattle.paper.specs.declared.Reason.the-variants.{Opcode as OPCODE, Bits as BITS, Size as SIZE, Operand as OPERAND}
+use Rattle.paper.specs.Places.{Entry, absent, listed, entryOf}
 use Rattle.opcodes.specs.Classes.{classNumber}
 use Rattle.opcodes.specs.Shape.{shapeOf}
 use Rattle.opcodes.proofs.Laws.{shape-absent, shape-class}
@@ -41,7 +42,7 @@ use Rattle.instruction.specs.Shown.{roomFor, judgedWith, judgedIn, unlis
 use Rattle.instruction.proofs.Claimed.{judged-some}
 
 -- a DCL is refused at one of its three tokens
-near : (o : Operands) (r : Refusal) (p : ℕ) (reason : Reason) → o ≡ refusedAs reason p → p ≤ 2 → o ≡ unfit r → r .position ≤ 2
+near : (o : Operands) (r : Refusal) (p : ℕ) (reason : Reason) → o ≡ refusedOperands reason p → p ≤ 2 → o ≡ unfit r → r .position ≤ 2
 near o r p reason e few h = let same : p ≡ r .position = cc in omega arith
 
 module _ (r : Refusal) where
@@ -49,11 +50,11 @@ module _ (r : Refusal) where
   over-near [] h = let z : _≡_ {A = ℕ} 0 1 = cc in absurd (omega arith)
   over-near (x ∷ rest) h = near _ r 0 SIZE refl (omega arith) h
 
-  usage-near : (laid : Bool) (rest : List ℕ) → pick laid (leftOver rest) (refusedAs OPERAND 1) ≡ unfit r → r .position ≤ 2
+  usage-near : (laid : Bool) (rest : List ℕ) → pick laid (leftOver rest) (refusedOperands OPERAND 1) ≡ unfit r → r .position ≤ 2
   usage-near true rest h = over-near rest h
   usage-near false rest h = near _ r 1 OPERAND refl (omega arith) h
 
-  token-near : (t : Token) (laid : Bool) (rest : List ℕ) → onDeclared t (pick laid (leftOver rest) (refusedAs OPERAND 1)) ≡ unfit r → r .position ≤ 2
+  token-near : (t : Token) (laid : Bool) (rest : List ℕ) → onDeclared t (pick laid (leftOver rest) (refusedOperands OPERAND 1)) ≡ unfit r → r .position ≤ 2
   token-near good laid rest h = usage-near laid rest h
   token-near (bad reason) laid rest h = near _ r 2 reason refl (omega arith) h
 
@@ -109,7 +110,7 @@ module _ (v : Version) (first : ℕ) (some : shapeOf v (opcodeOf first) ≡ 0 �
 
   class-by : (entry : Entry) → entryOf v (opcodeOf first) ≡ entry → classIn (shapeOf v (opcodeOf first)) ≡ classNumber (classOf (opcodeOf first))
   class-by absent e = absurd (some (shape-absent v (opcodeOf first) e))
-  class-by (listed letters) e = shape-class v (opcodeOf first) letters e
+  class-by (listed places) e = shape-class v (opcodeOf first) places e
 
   pub class-in : classIn (shapeOf v (opcodeOf first)) ≡ classNumber (classOf (opcodeOf first))
   class-in = class-by (entryOf v (opcodeOf first)) refl
@@ -163,12 +164,12 @@ sized-pick false x y a b = b
 
 sized-entry : (v : Version) (token : ℕ) (entry : Entry) → Sized (encoded (headOf v token entry))
 sized-entry v token absent = tt
-sized-entry v token (listed letters) =
+sized-entry v token (listed places) =
     let few : statedSize token < 16 = mod-lt _ (lit< tt) in
-    sized-pick (bitsLaid v token letters)
-    (pick (eqb (opcodeOf token) DCL) (dcl (statedSize token)) (operation (places token letters) (statedSize token)))
+    sized-pick (bitsLaid v token places)
+    (pick (eqb (opcodeOf token) DCL) (dcl (statedSize token)) (operation (withPredicate (isPredicated token) places) (statedSize token)))
     (broken BITS)
-    (sized-pick (eqb (opcodeOf token) DCL) (dcl (statedSize token)) (operation (places token letters) (statedSize token)) few few)
+    (sized-pick (eqb (opcodeOf token) DCL) (dcl (statedSize token)) (operation (withPredicate (isPredicated token) places) (statedSize token)) few few)
     tt
 
 sized : (v : Version) (token : ℕ) → Sized (encoded (head v token))

@@ -9,17 +9,17 @@ use lib.Dec.{eqb, leb, lit<}
 use lib.ListN.{length}
 use borrow.Author.Tests.{eq-eqb, ne-eqb, eqb-true, eqb-false}
 use Rattle.paper.specs.Notation.{pick, among, bits, bit}
-use Rattle.paper.specs.OpcodeTable.{Letter, Entry, absent, listed, entryOf, DCL, DEF, DEFI, DEFB, IFC, BREAKC, SETP, TEX}
+use Rattle.paper.specs.OpcodeTable.{DCL, DEF, DEFI, DEFB, IFC, BREAKC, SETP, TEX}
 use Rattle.paper.specs.Versions.{isThird}
-use Rattle.paper.specs.InstructionToken.{opcodeOf, controlsOf, statedSize, isPredicated, commentOpcode, commentLength, commentLaid, endOpcode, endToken, hasDestination, mayBePredicated, controlsLaid, bitsLaid}
-use Rattle.paper.specs.OperandTokens.{predicate, placesFrom}
-use Rattle.paper.specs.Instruction.{Head as Said, broken, end, comment, dcl, operation, places, headOf, head}
+use Rattle.paper.specs.InstructionToken.{opcodeOf, controlsOf, statedSize, isPredicated, commentOpcode, commentLength, commentLaid, endOpcode, endToken, hasDestination, mayBePredicated, withPredicate, controlsLaid, bitsLaid}
+use Rattle.paper.specs.Instruction.{Head as Said, broken, end, comment, dcl, operation, headOf, head}
 use Rattle.paper.specs.declared.Version.{Version}
-use Rattle.opcodes.specs.Places.{decoded}
+use Rattle.opcodes.specs.Places.{numberBy, decoded}
 use Rattle.opcodes.specs.Shape.{digits, shapeOf}
-use Rattle.opcodes.proofs.Laws.{shape-absent, shape-zero, shape-places, shape-step, shape-rule, decoded-digits, decoded-predicated, without-predicate, digits-predicated, length-places}
+use Rattle.opcodes.proofs.Laws.{shape-absent, shape-zero, shape-places, shape-step, shape-rule, decoded-digits, decoded-predicated, without-predicate, digits-predicated}
 use Rattle.paper.specs.declared.Reason.the-variants.{Bits as BITS}
 use Rattle.paper.proofs.Below.{both-left, both-right}
+use Rattle.paper.specs.Places.{Entry, absent, listed, entryOf, Place, predicate}
 use Rattle.instruction_token.specs.declared.Head.the-variants.{Refused, End, Comment}
 use Rattle.instruction_token.specs.Encoded.{encoded, hasZeros, ruleIn, controlsBy, bitsBy, placesBy, headBy}
 
@@ -37,12 +37,12 @@ unfolding head
 head-end v token h = rw (h, encoded-pick (eqb token endToken) end (broken BITS))
 
 -- the predicate's digit, as a machine of 64 bits shifts it
-pub predicate-small : (step : ℕ) → step < 8 → predicate * 2 ^ (7 * step) < 2 ^ 56
+pub predicate-small : (step : ℕ) → step < 8 → numberBy predicate * 2 ^ (7 * step) < 2 ^ 56
 predicate-small step h =
     let below : 2 ^ (7 * step) ≤ 2 ^ 49 = pow-le-pow-right {n = 2} (lit< tt) {i = 7 * step} {j = 49} (omega arith) in
     omega arith
 
-pub predicate-fits : (step : ℕ) → step < 8 → predicate * 2 ^ (7 * step) % 2 ^ 64 ≡ predicate * 2 ^ (7 * step)
+pub predicate-fits : (step : ℕ) → step < 8 → numberBy predicate * 2 ^ (7 * step) % 2 ^ 64 ≡ numberBy predicate * 2 ^ (7 * step)
 predicate-fits step h = mod-eq-of-lt (omega (arith, predicate-small step h))
 
 controls-by : (compared textured : Bool) (controls : ℕ) →
@@ -52,10 +52,10 @@ controls-by true textured controls = refl
 controls-by false true controls = refl
 controls-by false false controls = refl
 
-step-by : (letters : List Letter) (may : Bool) → (may ≡ true → hasDestination letters ≡ true) → not (eqb (pick may (length letters) 0) 0) ≡ may
-step-by letters false h = refl
+step-by : (places : List Place) (may : Bool) → (may ≡ true → hasDestination places ≡ true) → not (eqb (pick may (length places) 0) 0) ≡ may
+step-by places false h = refl
 step-by [] true h = let z : false ≡ true = h refl in z
-step-by (letter ∷ letters) true h = rw (ne-eqb (suc (length letters)) 0 (λ e. omega arith))
+step-by (letter ∷ places) true h = rw (ne-eqb (suc (length places)) 0 (λ e. omega arith))
 
 needs-destination : (third has no-definition : Bool) → third && (has && no-definition) ≡ true → has ≡ true
 needs-destination true true free e = refl
@@ -71,39 +71,38 @@ predicated-only false controls unpredicated may e f = let z : _≡_ {A = ℕ} 0 
 one-not-zero : (n : ℕ) → n ≡ 1 → eqb n 0 ≡ false
 one-not-zero n h = ne-eqb n 0 (λ z. omega arith)
 
-may-be : (v : Version) (token : ℕ) (letters : List Letter) → bitsLaid v token letters ≡ true → isPredicated token ≡ true →
-    mayBePredicated v (opcodeOf token) letters ≡ true
-may-be v token letters laid p =
+may-be : (v : Version) (token : ℕ) (places : List Place) → bitsLaid v token places ≡ true → isPredicated token ≡ true →
+    mayBePredicated v (opcodeOf token) places ≡ true
+may-be v token places laid p =
     predicated-only (eqb (bits 31 29 token) 0) (controlsLaid (opcodeOf token) (controlsOf token)) (eqb (bit 28 token) 0)
-    (mayBePredicated v (opcodeOf token) letters) laid (one-not-zero (bit 28 token) (eqb-true _ _ p))
+    (mayBePredicated v (opcodeOf token) places) laid (one-not-zero (bit 28 token) (eqb-true _ _ p))
 
-module _ (v : Version) (token : ℕ) (letters : List Letter) (e : entryOf v (opcodeOf token) ≡ listed letters) where
-  bits-by : bitsBy (shapeOf v (opcodeOf token)) token ≡ bitsLaid v token letters
+module _ (v : Version) (token : ℕ) (places : List Place) (e : entryOf v (opcodeOf token) ≡ listed places) where
+  bits-by : bitsBy (shapeOf v (opcodeOf token)) token ≡ bitsLaid v token places
   unfolding bitsBy
   bits-by =
-      let destined : mayBePredicated v (opcodeOf token) letters ≡ true → hasDestination letters ≡ true
-      = needs-destination (isThird v) (hasDestination letters) (not (among (opcodeOf token) (DCL ∷ DEF ∷ DEFI ∷ DEFB ∷ []))) in
+      let destined : mayBePredicated v (opcodeOf token) places ≡ true → hasDestination places ≡ true
+      = needs-destination (isThird v) (hasDestination places) (not (among (opcodeOf token) (DCL ∷ DEF ∷ DEFI ∷ DEFB ∷ []))) in
       rw (
-        shape-rule v (opcodeOf token) letters e,
-        shape-step v (opcodeOf token) letters e,
+        shape-rule v (opcodeOf token) places e,
+        shape-step v (opcodeOf token) places e,
         controls-by (among (opcodeOf token) (IFC ∷ BREAKC ∷ SETP ∷ [])) (eqb (opcodeOf token) TEX) (controlsOf token),
-        step-by letters (mayBePredicated v (opcodeOf token) letters) destined,
+        step-by places (mayBePredicated v (opcodeOf token) places) destined,
       )
 
-  places-by : bitsLaid v token letters ≡ true → (predicated : Bool) → isPredicated token ≡ predicated →
-      placesBy (shapeOf v (opcodeOf token)) token ≡ digits (places token letters)
+  places-by : bitsLaid v token places ≡ true → (predicated : Bool) → isPredicated token ≡ predicated →
+      placesBy (shapeOf v (opcodeOf token)) token ≡ digits (withPredicate (isPredicated token) places)
   unfolding placesBy
   places-by laid false p =
-      rw (p, shape-places v (opcodeOf token) letters e, without-predicate (placesFrom (opcodeOf token) 0 letters))
+      rw (p, shape-places v (opcodeOf token) places e, without-predicate places)
   places-by laid true p =
-      let may = may-be v token letters laid p in
+      let may = may-be v token places laid p in
       rw (
         p,
-        shape-places v (opcodeOf token) letters e,
-        shape-step v (opcodeOf token) letters e,
+        shape-places v (opcodeOf token) places e,
+        shape-step v (opcodeOf token) places e,
         may,
-        ← length-places (opcodeOf token) 0 letters,
-        digits-predicated (placesFrom (opcodeOf token) 0 letters),
+        digits-predicated places,
       )
 
   some : shapeOf v (opcodeOf token) ≡ 0 → ⊥
@@ -112,8 +111,8 @@ module _ (v : Version) (token : ℕ) (letters : List Letter) (e : entryOf v (opc
       let zero-one : _≡_ {A = ℕ} 0 1 = cc in
       omega arith
 
-  head-listed : (laid : Bool) → bitsLaid v token letters ≡ laid →
-      headBy (shapeOf v (opcodeOf token)) token ≡ encoded (headOf v token (listed letters))
+  head-listed : (laid : Bool) → bitsLaid v token places ≡ laid →
+      headBy (shapeOf v (opcodeOf token)) token ≡ encoded (headOf v token (listed places))
   unfolding headBy
   head-listed false b = rw (ne-eqb _ _ some, bits-by, b)
   head-listed true b =
@@ -122,14 +121,14 @@ module _ (v : Version) (token : ℕ) (letters : List Letter) (e : entryOf v (opc
         bits-by,
         b,
         places-by b (isPredicated token) refl,
-        encoded-pick (eqb (opcodeOf token) DCL) (dcl (statedSize token)) (operation (places token letters) (statedSize token)),
+        encoded-pick (eqb (opcodeOf token) DCL) (dcl (statedSize token)) (operation (withPredicate (isPredicated token) places) (statedSize token)),
       )
 
 head-shaped : (v : Version) (token : ℕ) (entry : Entry) → entryOf v (opcodeOf token) ≡ entry →
     headBy (shapeOf v (opcodeOf token)) token ≡ encoded (headOf v token entry)
 unfolding headBy
 head-shaped v token absent e = rw (shape-absent v (opcodeOf token) e)
-head-shaped v token (listed letters) e = head-listed v token letters e (bitsLaid v token letters) refl
+head-shaped v token (listed places) e = head-listed v token places e (bitsLaid v token places) refl
 
 pub head-other : (v : Version) (token : ℕ) → (opcodeOf token ≡ commentOpcode → ⊥) → (opcodeOf token ≡ endOpcode → ⊥) →
     encoded (head v token) ≡ headBy (shapeOf v (opcodeOf token)) token
@@ -137,28 +136,28 @@ unfolding head
 head-other v token no-comment no-end = rw (ne-eqb _ _ no-comment, ne-eqb _ _ no-end) (sym (head-shaped v token (entryOf v (opcodeOf token)) refl))
 
 -- the places that a head gives are read back from their number
-module _ (v : Version) (token : ℕ) (letters : List Letter) (e : entryOf v (opcodeOf token) ≡ listed letters) (laid : bitsLaid v token letters ≡ true) where
-  places-decoded : (predicated : Bool) → isPredicated token ≡ predicated → decoded (digits (places token letters)) ≡ places token letters
+module _ (v : Version) (token : ℕ) (places : List Place) (e : entryOf v (opcodeOf token) ≡ listed places) (laid : bitsLaid v token places ≡ true) where
+  places-decoded : (predicated : Bool) → isPredicated token ≡ predicated → decoded (digits (withPredicate (isPredicated token) places)) ≡ withPredicate (isPredicated token) places
   places-decoded false p =
-      rw (p, without-predicate (placesFrom (opcodeOf token) 0 letters)) (decoded-digits v (opcodeOf token) letters e)
+      rw (p, without-predicate places) (decoded-digits v (opcodeOf token) places e)
   places-decoded true p =
-      let may = may-be v token letters laid p in
-      rw (p, ← digits-predicated (placesFrom (opcodeOf token) 0 letters), length-places (opcodeOf token) 0 letters)
-      (rw may at (decoded-predicated v (opcodeOf token) letters e may))
+      let may = may-be v token places laid p in
+      rw (p, ← digits-predicated places)
+      (rw may at (decoded-predicated v (opcodeOf token) places e may))
 
-module _ (v : Version) (token : ℕ) (ps : List ℕ) (size : ℕ) where
-  listed-decoded : (letters : List Letter) → entryOf v (opcodeOf token) ≡ listed letters → (laid isDcl : Bool) → bitsLaid v token letters ≡ laid →
-      pick laid (pick isDcl (dcl (statedSize token)) (operation (places token letters) (statedSize token))) (broken BITS) ≡ operation ps size →
+module _ (v : Version) (token : ℕ) (ps : List Place) (size : ℕ) where
+  listed-decoded : (places : List Place) → entryOf v (opcodeOf token) ≡ listed places → (laid isDcl : Bool) → bitsLaid v token places ≡ laid →
+      pick laid (pick isDcl (dcl (statedSize token)) (operation (withPredicate (isPredicated token) places) (statedSize token))) (broken BITS) ≡ operation ps size →
       decoded (digits ps) ≡ ps
-  listed-decoded letters e true true b h = let z : _≡_ {A = ℕ} 0 1 = cc in absurd (omega arith)
-  listed-decoded letters e true false b h =
-      let same : places token letters ≡ ps = cc in
-      rw same at (places-decoded v token letters e b (isPredicated token) refl)
-  listed-decoded letters e false isDcl b h = let z : _≡_ {A = ℕ} 0 1 = cc in absurd (omega arith)
+  listed-decoded places e true true b h = let z : _≡_ {A = ℕ} 0 1 = cc in absurd (omega arith)
+  listed-decoded places e true false b h =
+      let same : withPredicate (isPredicated token) places ≡ ps = cc in
+      rw same at (places-decoded v token places e b (isPredicated token) refl)
+  listed-decoded places e false isDcl b h = let z : _≡_ {A = ℕ} 0 1 = cc in absurd (omega arith)
 
   entry-decoded : (entry : Entry) → entryOf v (opcodeOf token) ≡ entry → headOf v token entry ≡ operation ps size → decoded (digits ps) ≡ ps
   entry-decoded absent e h = let z : _≡_ {A = ℕ} 0 1 = cc in absurd (omega arith)
-  entry-decoded (listed letters) e h = listed-decoded letters e (bitsLaid v token letters) (eqb (opcodeOf token) DCL) refl h
+  entry-decoded (listed places) e h = listed-decoded places e (bitsLaid v token places) (eqb (opcodeOf token) DCL) refl h
 
   head-cases : (isComment commented isEnd ended : Bool) →
       pick isComment (pick commented (comment (commentLength token)) (broken BITS))

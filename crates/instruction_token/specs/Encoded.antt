@@ -5,10 +5,11 @@ use lib.Dec.{eqb, leb}
 use Rattle.paper.specs.Notation.{bits, bit, pick}
 use Rattle.paper.specs.OpcodeTable.{DCL}
 use Rattle.paper.specs.InstructionToken.{opcodeOf, controlsOf, statedSize, isPredicated}
-use Rattle.paper.specs.OperandTokens.{predicate}
 use Rattle.paper.specs.Instruction.{Head as Said, broken, end, comment, dcl, operation}
+use Rattle.opcodes.specs.Places.{numberBy}
 use Rattle.opcodes.specs.Shape.{digits}
 use Rattle.paper.specs.declared.Reason.the-variants.{Opcode as OPCODE, Bits as BITS}
+use Rattle.paper.specs.Places.{predicate}
 use Rattle.instruction_token.specs.declared.Head.{Head}
 use Rattle.instruction_token.specs.declared.Head.the-variants.{Refused, End, Comment, Declaration, Operation}
 
@@ -51,7 +52,7 @@ bitsBy shape token =
 
 unfoldable pub placesBy : ℕ → ℕ → ℕ
 placesBy shape token =
-    pick (isPredicated token) (shape % 2 ^ 35 + predicate * 2 ^ (7 * stepIn shape)) (shape % 2 ^ 35)
+    pick (isPredicated token) (shape % 2 ^ 35 + numberBy predicate * 2 ^ (7 * stepIn shape)) (shape % 2 ^ 35)
 
 unfoldable pub headBy : ℕ → ℕ → Head
 headBy shape token =

@@ -8,7 +8,7 @@ ghost use Rattle.instruction_token.specs.Encoded.{encoded, claimOf, hasZ
 use paper::Reason;
 use paper::Version;
 
-// The predicate's place, of specs/OperandTokens.antt.
+// The predicate's place, of specs/Places.antt of the opcodes.
 const PREDICATE: u64 = 93;
 
 // What an instruction's first token says by itself: a refusal, END, a comment and its length, a DCL and its stated size,

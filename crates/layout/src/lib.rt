@@ -1,45 +1,22 @@
 // The layout of operand tokens: document 01, "Operand tokens".
 ghost use mathlib.Core.Path.{_≡_};
-ghost use mathlib.Core.Bool.{_||_};
-ghost use Prim.Native.Nat.{_<_};
+ghost use mathlib.Core.Bool.{_&&_, _||_};
 ghost use lib.Dec.{eqb};
-ghost use Rattle.paper.specs.Notation.{bits};
+ghost use Rattle.paper.specs.Notation.{bits, bit};
 ghost use Rattle.paper.specs.Versions.{isPixel};
-ghost use Rattle.paper.specs.OperandTokens.{typeOf, modifierOf, bothLaid, destinationLaid, modifierLaid, sourceLaid, layoutThenType};
-ghost use Rattle.paper.specs.declared.Version.the-variants.{P2};
+ghost use Rattle.paper.specs.Places.{freeDestination, freeSource, declared, condition, predicate, relative};
+ghost use Rattle.paper.specs.OperandTokens.{typeOf, modifierOf, bothLaid, sourceModifier, laid, layoutThenType};
 use paper::Reason;
 use paper::Token;
 use paper::Version;
 
-// The places of specs/OperandTokens.antt, by their numbers there.
-const PREDICATE: u64 = 93;
-
-const RELATIVE: u64 = 94;
-
 // A set of modifiers: each raises its own bit.
 const PLAIN_MODIFIERS: u32 = 0b1_1000_0111_1111;
 
-// The register type that alone takes modifier D.
-const PREDICATE_REGISTER: u32 = 19;
+// The modifier that negates a predicate, and the register type that alone takes it.
+const NEGATED: u32 = 13;
 
-fn modifier_laid(place: u64, modifier: u32, kind: u32) -> bool
-    requires { ⌜ modifier < 16 ⌝ }
-    ensures { λ r. ⌜ r ≡ modifierLaid place modifier kind ⌝ }
-{
-    if modifier == 0 {
-        return true;
-    }
-    if place == RELATIVE {
-        return false;
-    }
-    if place == PREDICATE {
-        return (modifier == 13) & (kind == PREDICATE_REGISTER);
-    }
-    if (PLAIN_MODIFIERS >> modifier) % 2 == 1 {
-        return true;
-    }
-    (modifier == 13) & (kind == PREDICATE_REGISTER)
-}
+const PREDICATE_REGISTER: u32 = 19;
 
 // What sources and destinations have in common.
 fn both_laid(token: u32) -> bool
@@ -58,21 +35,21 @@ fn result_laid(version: Version, token: u32) -> bool
     versions::is_pixel(version)
 }
 
-fn free_modifier(token: u32) -> bool
-    ensures { λ r. ⌜ r ≡ modifierLaid 95 (modifierOf token) (typeOf token) ⌝ }
+fn source_modifier(token: u32) -> bool
+    ensures { λ r. ⌜ r ≡ sourceModifier (modifierOf token) (typeOf token) ⌝ }
 {
     let modifier = token / 0x100_0000 % 16;
     if (PLAIN_MODIFIERS >> modifier) % 2 == 1 {
         return true;
     }
-    (modifier == 13) & (versions::type_of(token) == PREDICATE_REGISTER)
+    (modifier == NEGATED) & (versions::type_of(token) == PREDICATE_REGISTER)
 }
 
 pub fn free_source_laid(version: Version, token: u32) -> bool
-    ensures { λ r. ⌜ r ≡ sourceLaid version 95 token ⌝ }
+    ensures { λ r. ⌜ r ≡ laid version freeSource token ⌝ }
 {
     if both_laid(token) {
-        if free_modifier(token) {
+        if source_modifier(token) {
             if token / 0x2000 % 2 == 0 {
                 return true;
             }
@@ -83,7 +60,7 @@ pub fn free_source_laid(version: Version, token: u32) -> bool
 }
 
 pub fn free_destination_laid(version: Version, token: u32) -> bool
-    ensures { λ r. ⌜ r ≡ destinationLaid version 63 token ⌝ }
+    ensures { λ r. ⌜ r ≡ laid version freeDestination token ⌝ }
 {
     if both_laid(token) & ((token / 0x80_0000 % 2 == 0) & (token / 0x100_0000 % 16 == 0)) {
         if result_laid(version, token) {
@@ -96,9 +73,9 @@ pub fn free_destination_laid(version: Version, token: u32) -> bool
     false
 }
 
-// Bit 13 is zero at every place that is not free, as at DCL's, number 61 (`typed-destination` in proofs/Laws.antt).
+// A destination at a place that is not free, as DCL's is: bit 13 is zero.
 pub fn typed_destination_laid(version: Version, token: u32) -> bool
-    ensures { λ r. ⌜ r ≡ destinationLaid version 61 token ⌝ }
+    ensures { λ r. ⌜ r ≡ laid version declared token ⌝ }
 {
     if both_laid(token)
         & ((token / 0x80_0000 % 2 == 0)
@@ -109,14 +86,42 @@ pub fn typed_destination_laid(version: Version, token: u32) -> bool
     false
 }
 
-// Bit 13 is zero at every place that is not free, as at every place in P2 (`typed-source` in proofs/Laws.antt).
-pub fn typed_source_laid(place: u64, token: u32) -> bool
-    ensures { λ r. ⌜ r ≡ sourceLaid P2 place token ⌝ }
+// What sources have in common at places that are not free: bit 13 is zero.
+fn unfree_laid(token: u32) -> bool
+    ensures { λ r. ⌜ r ≡ (bothLaid token && eqb (bit 13 token) 0) ⌝ }
 {
-    if both_laid(token) & (token / 0x2000 % 2 == 0) {
-        return modifier_laid(place, token / 0x100_0000 % 16, versions::type_of(token));
+    let both = both_laid(token);
+    both & (token / 0x2000 % 2 == 0)
+}
+
+// A source at a place that is not free, as a condition's is. The versions agree on it.
+pub fn typed_source_laid(version: Version, token: u32) -> bool
+    ensures { λ r. ⌜ r ≡ laid version condition token ⌝ }
+{
+    if unfree_laid(token) {
+        return source_modifier(token);
     }
     false
+}
+
+// "modifier 0 or D"
+pub fn predicate_laid(version: Version, token: u32) -> bool
+    ensures { λ r. ⌜ r ≡ laid version predicate token ⌝ }
+{
+    if unfree_laid(token) {
+        let modifier = token / 0x100_0000 % 16;
+        return (modifier == 0)
+            | ((modifier == NEGATED) & (versions::type_of(token) == PREDICATE_REGISTER));
+    }
+    false
+}
+
+// "bit 13 and modifier zero"
+pub fn relative_laid(version: Version, token: u32) -> bool
+    ensures { λ r. ⌜ r ≡ laid version relative token ⌝ }
+{
+    let laid = unfree_laid(token);
+    laid & (token / 0x100_0000 % 16 == 0)
 }
 
 pub fn layout_then_type(laid: bool, typed: bool) -> Token

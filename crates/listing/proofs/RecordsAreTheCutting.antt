@@ -10,13 +10,12 @@ use lib.ListN.{length, take, drop, length-drop}
 use lib.Seq.{take-length, take-at, drop-at, drop-drop}
 use borrow.Author.Tests.{le-leb, leb-true}
 use Rattle.paper.specs.Notation.{pick}
-use Rattle.paper.specs.Versions.{tokenOf, named}
-use Rattle.paper.specs.OpcodeTable.{IF, IFC, LOOP, REP, ELSE, ENDIF, ENDLOOP, ENDREP, BREAK, BREAKC, BREAKP, LABEL, RET}
+use Rattle.paper.specs.Versions.{versionToken, named}
 use Rattle.paper.specs.InstructionToken.{opcodeOf}
 use Rattle.paper.specs.Instruction.{Head, broken, end, comment, dcl, operation, head, onHead, judged, operands}
 use Rattle.paper.specs.Dcl.{declaration}
 use Rattle.paper.specs.Blocks.{classOf}
-use Rattle.paper.specs.Stream.{mostTokens, counts, verdict}
+use Rattle.paper.specs.Stream.{mostTokens, verdict}
 use Rattle.paper.specs.declared.Version.{Version}
 use Rattle.paper.specs.declared.Version.the-variants.{V2, V3, P2, P3}
 use Rattle.paper.specs.declared.Named.the-variants.{Known}
@@ -28,6 +27,8 @@ use Rattle.paper.specs.declared.Single.the-variants.{Comment, Plain, Break, Lab
 use Rattle.paper.specs.declared.Judged.the-variants.{Good as Lawful}
 use Rattle.paper.specs.declared.Verdict.the-variants.{Accepted}
 use Rattle.paper.proofs.Below.{both-right}
+use Rattle.paper.specs.Walk.{counts}
+use Rattle.blocks.proofs.Classes.{class-counted}
 use Rattle.cutting.specs.Cuttings.{joined, Alone, Chunks, last, next, instructions}
 use Rattle.cutting.proofs.AcceptedIsACutting.{accepted-is-a-cutting}
 use Rattle.cutting.proofs.OwnTokens.{apart, good-alone, within-good, good-operands}
@@ -37,7 +38,7 @@ use Rattle.reader.specs.Reading.{got, reading}
 use Rattle.reader.proofs.Laws.{reading-own}
 use Rattle.listing.specs.Listing.{recordsFrom, recordsOf, isPassed, counted}
 
-named-back : (v : Version) → named (tokenOf v) ≡ Known v
+named-back : (v : Version) → named (versionToken v) ≡ Known v
 named-back V2 = refl
 named-back V3 = refl
 named-back P2 = refl
@@ -55,7 +56,7 @@ module _ (v : Version) (first : ℕ) (rest other : List ℕ) {class : Class} (al
   within : at < length s
   within = omega (arith, length-drop at s, ap length here)
 
-  read-here : reading (tokenOf v) s at ≡ got (at + length rest + 1) (recordOf v (first ∷ rest))
+  read-here : reading (versionToken v) s at ≡ got (at + length rest + 1) (recordOf v (first ∷ rest))
   unfolding reading
   read-here =
       let front : take (suc (length rest)) (drop at s) ≡ first ∷ rest = rw here (take-at (first ∷ rest) other (suc (length rest)) refl) in
@@ -69,7 +70,7 @@ module _ (v : Version) (first : ℕ) (rest other : List ℕ) {class : Class} (al
 
 pub records-are-chunks : {v : Version} {chunks : List (List ℕ)} {classes : List Class} → Chunks v chunks classes →
     (s : List ℕ) (at : ℕ) → drop at s ≡ joined chunks → length s ≤ mostTokens →
-    recordsFrom (length chunks) (tokenOf v) s at ≡ recordsOf v chunks
+    recordsFrom (length chunks) (versionToken v) s at ≡ recordsOf v chunks
 unfolding recordsFrom
 records-are-chunks {v} (last {first} {rest} alone) s at here few = rw (read-here v first rest [] alone s at here few)
 records-are-chunks {v} (next {first} {rest} {class} {chunks} alone n later) s at here few =
@@ -78,27 +79,8 @@ records-are-chunks {v} (next {first} {rest} {class} {chunks} alone n later) s at
     (records-are-chunks later s (at + length rest + 1) (behind v first rest (joined chunks) alone s at here few) few))
 
 -- an instruction of the table is counted, whatever it is to the blocks
-one-of-ten : (n : ℕ) (b1 b2 b3 b4 b5 b6 b7 b8 b9 b10 : Bool) → counts (pick b1 (Opens If) (pick b2 (Opens Loop) (pick b3 (Opens Rep) (pick b4 (Closes Else) (pick b5 (Closes EndIf) (pick b6 (Closes EndLoop) (pick b7 (Closes EndRep) (pick b8 (One Break) (pick b9 (One Label) (pick b10 (One Return) (One Plain))))))))))) n ≡ suc n
-one-of-ten n true b2 b3 b4 b5 b6 b7 b8 b9 b10 = refl
-one-of-ten n false true b3 b4 b5 b6 b7 b8 b9 b10 = refl
-one-of-ten n false false true b4 b5 b6 b7 b8 b9 b10 = refl
-one-of-ten n false false false true b5 b6 b7 b8 b9 b10 = refl
-one-of-ten n false false false false true b6 b7 b8 b9 b10 = refl
-one-of-ten n false false false false false true b7 b8 b9 b10 = refl
-one-of-ten n false false false false false false true b8 b9 b10 = refl
-one-of-ten n false false false false false false false true b9 b10 = refl
-one-of-ten n false false false false false false false false true b10 = refl
-one-of-ten n false false false false false false false false false true = refl
-one-of-ten n false false false false false false false false false false = refl
-
-opcode-counts : (opcode n : ℕ) → counts (classOf opcode) n ≡ suc n
-unfolding classOf
-opcode-counts opcode n =
-    one-of-ten n (eqb opcode IF || eqb opcode IFC) (eqb opcode LOOP) (eqb opcode REP) (eqb opcode ELSE) (eqb opcode ENDIF) (eqb opcode ENDLOOP)
-    (eqb opcode ENDREP) (eqb opcode BREAK || (eqb opcode BREAKC || eqb opcode BREAKP)) (eqb opcode LABEL) (eqb opcode RET)
-
 listed-counts : (n opcode : ℕ) (class : Class) → classOf opcode ≡ class → suc n ≡ counts class n
-listed-counts n opcode class e = sym (opcode-counts opcode n) ∙ ap (λ (x : Class). counts x n) e
+listed-counts n opcode class e = sym (class-counted opcode n) ∙ ap (λ (x : Class). counts x n) e
 
 -- a chunk's record counts as its class does
 module _ (v : Version) (first : ℕ) (rest : List ℕ) (n : ℕ) {size : ℕ} {class : Class} where
@@ -132,7 +114,7 @@ records-counted {v} (next {first} {rest} {class} {chunks} alone n later) =
 -- an accepted stream: what the reader gives from behind the version on, as many instructions as the cutting has chunks
 pub records-are-the-cutting : (s : List ℕ) (n : ℕ) (accept : verdict s ≡ Accepted n) →
     let l = accepted-is-a-cutting s n accept in
-    let records = recordsFrom (length (l .chunks)) (tokenOf (l .version)) s 1 in
+    let records = recordsFrom (length (l .chunks)) (versionToken (l .version)) s 1 in
     (records ≡ recordsOf (l .version) (l .chunks)) × (counted records ≡ n)
 records-are-the-cutting s n accept =
     let l = accepted-is-a-cutting s n accept in

@@ -5,20 +5,18 @@ use mathlib.Core.Bool.{Bool, true, false, _&&_}
 use mathlib.Core.List.{List, [], _∷_}
 use native.Mathlib.Nat.{le-of-suc-le-suc, not-suc-le-zero, mul-suc}
 use native.Mathlib.Omega.{arith}
-use lib.Dec.{eqb, leb, ltb}
+use lib.Dec.{eqb}
 use lib.ListN.{length}
 use lib.Pow.{pow-add}
-use borrow.Author.Tests.{eq-eqb, ne-eqb, leb-true, ltb-true}
-use Rattle.paper.specs.OperandTokens.{predicate, withPredicate}
+use borrow.Author.Tests.{eq-eqb, ne-eqb}
 use Rattle.opcodes.specs.Shape.{digits}
-use Rattle.opcodes.specs.Places.{placesIn, decoded}
+use Rattle.opcodes.specs.Places.{placeBy, numberBy, placesIn, decoded}
 use Rattle.paper.proofs.Below.{both-left, both-right}
+use Rattle.paper.specs.Places.{Place, predicate}
+use Rattle.paper.specs.InstructionToken.{withPredicate}
+use Rattle.opcodes.proofs.Places.{isPlace, number-small, number-some, place-back}
 
--- a number that is a place: a digit of base 128, and not zero
-abbrev pub isPlace : ℕ → Bool
-isPlace place = leb 1 place && ltb place 128
-
-abbrev pub arePlaces : List ℕ → Bool
+abbrev pub arePlaces : List Place → Bool
 arePlaces [] = true
 arePlaces (place ∷ places) = isPlace place && arePlaces places
 
@@ -26,7 +24,7 @@ placesIn-none : (f p : ℕ) → p ≡ 0 → placesIn f p ≡ []
 placesIn-none zero p h = refl
 placesIn-none (suc f) p h = rw (eq-eqb p 0 h) refl
 
-placesIn-one : (f p : ℕ) → (p ≡ 0 → ⊥) → placesIn (suc f) p ≡ p % 128 ∷ placesIn f (p / 128)
+placesIn-one : (f p : ℕ) → (p ≡ 0 → ⊥) → placesIn (suc f) p ≡ placeBy (p % 128) ∷ placesIn f (p / 128)
 placesIn-one f p h = rw (ne-eqb p 0 h) refl
 
 -- places below 128 ^ f, so that one more step finds none
@@ -38,35 +36,44 @@ placesIn-more : (f p : ℕ) (b : Bool) → eqb p 0 ≡ b → p < room f → plac
 placesIn-more zero p b t h = placesIn-none 1 p (omega arith)
 placesIn-more (suc f) p true t h = rw t refl
 placesIn-more (suc f) p false t h =
-    rw t (ap (λ rest. p % 128 ∷ rest) (placesIn-more f (p / 128) (eqb (p / 128) 0) refl (omega arith)))
+    rw t (ap (λ rest. placeBy (p % 128) ∷ rest) (placesIn-more f (p / 128) (eqb (p / 128) 0) refl (omega arith)))
 
 pub decoded-zero : decoded 0 ≡ []
 unfolding decoded
 decoded-zero = refl
 
-pub decoded-step : (p : ℕ) → p < 2 ^ 64 → (p ≡ 0 → ⊥) → decoded p ≡ p % 128 ∷ decoded (p / 128)
+pub decoded-step : (p : ℕ) → p < 2 ^ 64 → (p ≡ 0 → ⊥) → decoded p ≡ placeBy (p % 128) ∷ decoded (p / 128)
 unfolding decoded
 decoded-step p h some =
     placesIn-one 9 p some
-    ∙ ap (λ rest. p % 128 ∷ rest) (sym (placesIn-more 9 (p / 128) (eqb (p / 128) 0) refl (omega arith)))
+    ∙ ap (λ rest. placeBy (p % 128) ∷ rest) (sym (placesIn-more 9 (p / 128) (eqb (p / 128) 0) refl (omega arith)))
 
-placesIn-digits : (f : ℕ) (places : List ℕ) → arePlaces places ≡ true → length places ≤ f → placesIn f (digits places) ≡ places
+low-digit : (n m : ℕ) → n < 128 → (n + 128 * m) % 128 ≡ n
+low-digit n m h = omega arith
+
+high-digits : (n m : ℕ) → n < 128 → (n + 128 * m) / 128 ≡ m
+high-digits n m h = omega arith
+
+some-digit : (n m : ℕ) → 1 ≤ n → n + 128 * m ≡ 0 → ⊥
+some-digit n m h e = omega arith
+
+placesIn-digits : (f : ℕ) (places : List Place) → arePlaces places ≡ true → length places ≤ f → placesIn f (digits places) ≡ places
 placesIn-digits f [] t h = placesIn-none f 0 refl
 placesIn-digits zero (place ∷ places) t h = absurd (not-suc-le-zero h)
 placesIn-digits (suc f) (place ∷ places) t h =
     let one = both-left (isPlace place) (arePlaces places) t in
-    let low : 1 ≤ place = leb-true 1 place (both-left (leb 1 place) (ltb place 128) one) in
-    let high : place < 128 = ltb-true place 128 (both-right (leb 1 place) (ltb place 128) one) in
-    let first : (place + 128 * digits places) % 128 ≡ place = omega arith in
-    let rest : (place + 128 * digits places) / 128 ≡ digits places = omega arith in
-    placesIn-one f (place + 128 * digits places) (λ e. omega arith)
-    ∙ rw (first, rest) (ap (λ found. place ∷ found) (placesIn-digits f places (both-right (isPlace place) (arePlaces places) t) (le-of-suc-le-suc h)))
+    let low : 1 ≤ numberBy place = number-some place in
+    let high : numberBy place < 128 = number-small place one in
+    let first : (numberBy place + 128 * digits places) % 128 ≡ numberBy place = low-digit (numberBy place) (digits places) high in
+    let rest : (numberBy place + 128 * digits places) / 128 ≡ digits places = high-digits (numberBy place) (digits places) high in
+    placesIn-one f (numberBy place + 128 * digits places) (some-digit (numberBy place) (digits places) low)
+    ∙ rw (first, rest, place-back place one) (ap (λ found. place ∷ found) (placesIn-digits f places (both-right (isPlace place) (arePlaces places) t) (le-of-suc-le-suc h)))
 
-pub decoded-places : (places : List ℕ) → arePlaces places ≡ true → length places ≤ 10 → decoded (digits places) ≡ places
+pub decoded-places : (places : List Place) → arePlaces places ≡ true → length places ≤ 10 → decoded (digits places) ≡ places
 unfolding decoded
 decoded-places places t h = placesIn-digits 10 places t h
 
-pub without-predicate : (places : List ℕ) → withPredicate false places ≡ places
+pub without-predicate : (places : List Place) → withPredicate false places ≡ places
 without-predicate [] = refl
 without-predicate (place ∷ places) = ap (λ rest. place ∷ rest) (without-predicate places)
 
@@ -74,16 +81,16 @@ next-digit : (n : ℕ) → 2 ^ (7 * suc n) ≡ 2 ^ (7 * n) * 128
 next-digit n = rw (mul-suc 7 n) (pow-add 2 (7 * n) 7)
 
 -- the predicate is the digit behind the last
-pub digits-predicated : (places : List ℕ) → digits places + predicate * 2 ^ (7 * length places) ≡ digits (withPredicate true places)
+pub digits-predicated : (places : List Place) → digits places + numberBy predicate * 2 ^ (7 * length places) ≡ digits (withPredicate true places)
 digits-predicated [] = refl
 digits-predicated (place ∷ places) =
     rw (next-digit (length places)) (omega (arith, digits-predicated places))
 
-pub predicated-places : (places : List ℕ) → arePlaces places ≡ true → arePlaces (withPredicate true places) ≡ true
+pub predicated-places : (places : List Place) → arePlaces places ≡ true → arePlaces (withPredicate true places) ≡ true
 predicated-places [] t = refl
 predicated-places (place ∷ places) t =
     rw (both-left (isPlace place) (arePlaces places) t) (predicated-places places (both-right (isPlace place) (arePlaces places) t))
 
-pub predicated-length : (places : List ℕ) → length (withPredicate true places) ≡ suc (length places)
+pub predicated-length : (places : List Place) → length (withPredicate true places) ≡ suc (length places)
 predicated-length [] = refl
 predicated-length (place ∷ places) = ap suc (predicated-length places)

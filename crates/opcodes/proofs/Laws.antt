@@ -1,16 +1,15 @@
 -- What a shape says, for those who look one up: whether the table lists the opcode, each field, and the places read back from their number.
 use Prim.Native.Nat.{ℕ, suc, _+_, _*_, _/_, _%_, _^_, _≤_, _<_}
 use mathlib.Core.Path.{_≡_, refl, ap}
-use mathlib.Core.Bool.{Bool, true, false, _&&_}
+use mathlib.Core.Bool.{Bool, true, false, not, _&&_}
 use mathlib.Core.List.{List, [], _∷_}
 use native.Mathlib.Omega.{arith}
 use lib.Dec.{eqb, leb, ltb, lit<}
 use lib.ListN.{length}
 use borrow.Author.Tests.{leb-true, ltb-true}
 use Rattle.paper.specs.Notation.{pick, among}
-use Rattle.paper.specs.OpcodeTable.{Letter, Entry, absent, listed, rows, entryOf, IFC, BREAKC, SETP, TEX}
-use Rattle.paper.specs.InstructionToken.{mayBePredicated}
-use Rattle.paper.specs.OperandTokens.{predicate, placesFrom, typedPlaces, withPredicate}
+use Rattle.paper.specs.OpcodeTable.{rows, IFC, BREAKC, SETP, TEX}
+use Rattle.paper.specs.InstructionToken.{mayBePredicated, withPredicate}
 use Rattle.paper.specs.Blocks.{classOf}
 use Rattle.paper.specs.declared.Version.{Version}
 use Rattle.paper.specs.declared.Single.the-variants.{Comment, Plain, Break, Label, Return}
@@ -20,26 +19,30 @@ use Rattle.paper.specs.declared.Class.{Class}
 use Rattle.paper.specs.declared.Class.the-variants.{One, Opens, Closes}
 use Rattle.opcodes.specs.Classes.{classNumber}
 use Rattle.opcodes.specs.Shape.{digits, controlsRule, predicateStep, shapeIn, shapeOf}
-use Rattle.opcodes.specs.Places.{decoded}
+use Rattle.opcodes.specs.Places.{numberBy, decoded}
 use Rattle.paper.proofs.Below.{both-left, both-right}
+use Rattle.paper.specs.Places.{Entry, absent, listed, entryOf, Place, predicate, isPredicate, typedPlaces}
 use Rattle.opcodes.proofs.Computed.{computed}
 use Rattle.opcodes.proofs.Table.{limit, beyond}
 use Rattle.opcodes.proofs.Decoding.{arePlaces, decoded-places, predicated-places, predicated-length}
 pub use Rattle.opcodes.proofs.Decoding.{decoded-zero, decoded-step, without-predicate, digits-predicated}
 
--- what the table is tested for: at most five operands, each at a place, whose number takes 35 bits
-abbrev fits : ℕ → List Letter → Bool
-fits opcode letters =
-    leb (length letters) 5
-    && (ltb (digits (placesFrom opcode 0 letters)) (2 ^ 35) && arePlaces (placesFrom opcode 0 letters))
+-- none of the places is the predicate's
+abbrev pub unpredicated : List Place → Bool
+unpredicated [] = true
+unpredicated (place ∷ places) = not (isPredicate place) && unpredicated places
 
-abbrev entryFits : ℕ → Entry → Bool
-entryFits opcode absent = true
-entryFits opcode (listed letters) = fits opcode letters
+-- what the table is tested for: at most five operands, each at a place but the predicate's, whose number takes 35 bits
+abbrev fits : List Place → Bool
+fits places = leb (length places) 5 && (ltb (digits places) (2 ^ 35) && (arePlaces places && unpredicated places))
 
-entry-fits : (v : Version) (opcode : ℕ) → entryFits opcode (entryOf v opcode) ≡ true
+abbrev entryFits : Entry → Bool
+entryFits absent = true
+entryFits (listed places) = fits places
+
+entry-fits : (v : Version) (opcode : ℕ) → entryFits (entryOf v opcode) ≡ true
 unfolding rows entryOf typedPlaces
-entry-fits = computed (λ v opcode. entryFits opcode (entryOf v opcode)) limit refl (λ v opcode h. rw (beyond v opcode h) refl)
+entry-fits = computed (λ v opcode. entryFits (entryOf v opcode)) limit refl (λ v opcode h. rw (beyond v opcode h) refl)
 
 rule-small : (opcode : ℕ) → controlsRule opcode < 3
 rule-small opcode = by (among opcode (IFC ∷ BREAKC ∷ SETP ∷ [])) (eqb opcode TEX)
@@ -68,11 +71,6 @@ class-few (Closes EndLoop) = lit< tt
 class-few (Closes EndRep) = lit< tt
 class-few (Closes End) = lit< tt
 
-pub length-places : (opcode operand : ℕ) (letters : List Letter) → length (placesFrom opcode operand letters) ≡ length letters
-unfolding typedPlaces
-length-places opcode operand [] = refl
-length-places opcode operand (letter ∷ letters) = ap suc (length-places opcode (suc operand) letters)
-
 -- the fields of a shape, over plain numbers
 abbrev packed : ℕ → ℕ → ℕ → ℕ → ℕ
 packed places step rule class = places + (2 ^ 35 * step + (2 ^ 38 * rule + (2 ^ 40 + 2 ^ 41 * class)))
@@ -100,39 +98,42 @@ shape-absent v opcode e = rw e refl
 
 shape-zero-in : (v : Version) (opcode : ℕ) (entry : Entry) → shapeIn v opcode entry ≡ 0 → entry ≡ absent
 shape-zero-in v opcode absent h = refl
-shape-zero-in v opcode (listed letters) h = absurd (omega arith)
+shape-zero-in v opcode (listed places) h = absurd (omega arith)
 
 pub shape-zero : (v : Version) (opcode : ℕ) → shapeOf v opcode ≡ 0 → entryOf v opcode ≡ absent
 unfolding shapeOf
 shape-zero v opcode h = shape-zero-in v opcode (entryOf v opcode) h
 
-module _ (v : Version) (opcode : ℕ) (letters : List Letter) (e : entryOf v opcode ≡ listed letters) where
-  pub shape-listed : shapeOf v opcode ≡ shapeIn v opcode (listed letters)
+module _ (v : Version) (opcode : ℕ) (places : List Place) (e : entryOf v opcode ≡ listed places) where
+  pub shape-listed : shapeOf v opcode ≡ shapeIn v opcode (listed places)
   unfolding shapeOf
   shape-listed = rw e refl
 
-  listed-fits : fits opcode letters ≡ true
+  listed-fits : fits places ≡ true
   listed-fits = rw e at (entry-fits v opcode)
 
-  pub few : length letters ≤ 5
-  few = leb-true (length letters) 5 (both-left (leb (length letters) 5) _ listed-fits)
+  pub few : length places ≤ 5
+  few = leb-true (length places) 5 (both-left (leb (length places) 5) _ listed-fits)
 
-  places-fit : ltb (digits (placesFrom opcode 0 letters)) (2 ^ 35) && arePlaces (placesFrom opcode 0 letters) ≡ true
-  places-fit = both-right (leb (length letters) 5) _ listed-fits
+  places-fit : ltb (digits places) (2 ^ 35) && (arePlaces places && unpredicated places) ≡ true
+  places-fit = both-right (leb (length places) 5) _ listed-fits
 
-  pub digits-small : digits (placesFrom opcode 0 letters) < 2 ^ 35
-  digits-small = ltb-true _ _ (both-left (ltb (digits (placesFrom opcode 0 letters)) (2 ^ 35)) _ places-fit)
+  pub digits-small : digits places < 2 ^ 35
+  digits-small = ltb-true _ _ (both-left (ltb (digits places) (2 ^ 35)) _ places-fit)
 
-  pub are-places : arePlaces (placesFrom opcode 0 letters) ≡ true
-  are-places = both-right (ltb (digits (placesFrom opcode 0 letters)) (2 ^ 35)) _ places-fit
+  pub are-places : arePlaces places ≡ true
+  are-places = both-left (arePlaces places) _ (both-right (ltb (digits places) (2 ^ 35)) _ places-fit)
 
-  step-few : predicateStep v opcode letters ≤ 5
-  step-few = step-small (mayBePredicated v opcode letters) (length letters) few
+  pub row-unpredicated : unpredicated places ≡ true
+  row-unpredicated = both-right (arePlaces places) _ (both-right (ltb (digits places) (2 ^ 35)) _ places-fit)
 
-  pub shape-places : shapeOf v opcode % 2 ^ 35 ≡ digits (placesFrom opcode 0 letters)
+  step-few : predicateStep v opcode places ≤ 5
+  step-few = step-small (mayBePredicated v opcode places) (length places) few
+
+  pub shape-places : shapeOf v opcode % 2 ^ 35 ≡ digits places
   shape-places = rw shape-listed (packed-places _ _ _ _ digits-small step-few (rule-small opcode))
 
-  pub shape-step : shapeOf v opcode / 2 ^ 35 % 8 ≡ predicateStep v opcode letters
+  pub shape-step : shapeOf v opcode / 2 ^ 35 % 8 ≡ predicateStep v opcode places
   shape-step = rw shape-listed (packed-step _ _ _ _ digits-small step-few (rule-small opcode))
 
   pub shape-rule : shapeOf v opcode / 2 ^ 38 % 4 ≡ controlsRule opcode
@@ -144,13 +145,13 @@ module _ (v : Version) (opcode : ℕ) (letters : List Letter) (e : entryOf v opc
   pub shape-bound : shapeOf v opcode < 2 ^ 45
   shape-bound = rw shape-listed (packed-bound _ _ _ _ digits-small step-few (rule-small opcode) (class-few (classOf opcode)))
 
-  pub decoded-digits : decoded (digits (placesFrom opcode 0 letters)) ≡ placesFrom opcode 0 letters
-  decoded-digits = decoded-places (placesFrom opcode 0 letters) are-places (omega (arith, few, length-places opcode 0 letters))
+  pub decoded-digits : decoded (digits places) ≡ places
+  decoded-digits = decoded-places places are-places (omega (arith, few))
 
-  pub decoded-predicated : mayBePredicated v opcode letters ≡ true →
-      decoded (digits (placesFrom opcode 0 letters) + predicate * 2 ^ (7 * predicateStep v opcode letters))
-      ≡ withPredicate true (placesFrom opcode 0 letters)
+  pub decoded-predicated : mayBePredicated v opcode places ≡ true →
+      decoded (digits places + numberBy predicate * 2 ^ (7 * predicateStep v opcode places))
+      ≡ withPredicate true places
   decoded-predicated m =
-      rw (m, ← length-places opcode 0 letters, digits-predicated (placesFrom opcode 0 letters))
-      (decoded-places (withPredicate true (placesFrom opcode 0 letters)) (predicated-places (placesFrom opcode 0 letters) are-places)
-      (omega (arith, few, length-places opcode 0 letters, predicated-length (placesFrom opcode 0 letters))))
+      rw (m, digits-predicated places)
+      (decoded-places (withPredicate true places) (predicated-places places are-places)
+      (omega (arith, few, predicated-length places)))

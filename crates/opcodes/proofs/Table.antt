@@ -9,15 +9,15 @@ use native.Mathlib.Omega.{arith}
 use lib.Dec.{eqb, ltb}
 use borrow.Author.Tests.{ne-eqb, ltb-true, eqb-true}
 use Rattle.paper.specs.Notation.{pick, among}
-use Rattle.paper.specs.Versions.{rank}
-use Rattle.paper.specs.OpcodeTable.{SINCOS, Row, absent, lookup, isOne, rows, entryOf}
-use Rattle.paper.specs.OperandTokens.{typedPlaces}
-use Rattle.paper.specs.Blocks.{classOf}
+use Rattle.paper.specs.Versions.{isOne}
+use Rattle.paper.specs.OpcodeTable.{Row, rows}
+use Rattle.paper.specs.Blocks.{classes, classOf}
 use Rattle.paper.specs.declared.Version.{Version}
 use Rattle.paper.specs.declared.Version.the-variants.{V2, V3, P2, P3}
 use Rattle.opcodes.specs.Shape.{shapeOf}
-use Rattle.opcodes.specs.Rows.{rowOf}
+use Rattle.opcodes.specs.Rows.{rank, sincos, rowOf}
 use Rattle.paper.proofs.Below.{both-left, both-right}
+use Rattle.paper.specs.Places.{absent, lookup, entryOf, typedPlaces}
 use Rattle.opcodes.proofs.Computed.{computed}
 
 -- the lowest number above every opcode of the table
@@ -45,7 +45,7 @@ smallRows (r ∷ rs) = small (r .opcodes) && smallRows rs
 not-listed : (v : Version) (opcode : ℕ) (rs : List Row) → limit ≤ opcode → smallRows rs ≡ true → lookup rs v opcode ≡ absent
 not-listed v opcode [] h t = refl
 not-listed v opcode (r ∷ rs) h t =
-    rw (not-among opcode (r .opcodes) h (both-left (small (r .opcodes)) (smallRows rs) t), and-false (isOne v (r .versions)))
+    rw (not-among opcode (r .opcodes) h (both-left (small (r .opcodes)) (smallRows rs) t), and-false (isOne v (r .allowed)))
     (not-listed v opcode rs h (both-right (small (r .opcodes)) (smallRows rs) t))
 
 pub beyond : (v : Version) (opcode : ℕ) → limit ≤ opcode → entryOf v opcode ≡ absent
@@ -79,10 +79,10 @@ no-row-from opcode (suc n) from rest =
 pub no-row : (opcode : ℕ) → NoneBelow opcode limit → rowOf opcode ≡ 0
 no-row opcode rest = no-row-from opcode limit (row-beyond opcode) rest
 
--- what the code finds for the version of a rank, by the row of an opcode: none where the version's bit is zero, but for SINCOS; a step only in V3 and P3
+-- what the code finds for the version of a rank, by the row of an opcode: none where the version's bit is zero, but for sincos; a step only in V3 and P3
 abbrev pub found : ℕ → ℕ → ℕ → ℕ
 found n opcode row =
-    pick (eqb (row / 2 ^ n % 2) 0) (pick (eqb opcode SINCOS && eqb (n % 2) 1) (shapeOf V3 SINCOS) 0)
+    pick (eqb (row / 2 ^ n % 2) 0) (pick (eqb opcode sincos && eqb (n % 2) 1) (shapeOf V3 sincos) 0)
     (pick (eqb (n % 2) 1) (row / 16) (row / 16 / 2 ^ 38 * 2 ^ 38 + row / 16 % 2 ^ 35))
 
 abbrev right : Version → ℕ → Bool
@@ -90,7 +90,7 @@ right v opcode = eqb (found (rank v) opcode (rowOf opcode)) (shapeOf v opcode)
 
 right-beyond : (v : Version) (opcode : ℕ) → limit ≤ opcode → right v opcode ≡ true
 unfolding shapeOf
-right-beyond v opcode h = rw (beyond v opcode h, row-beyond opcode h, ne-eqb opcode SINCOS (λ e. omega arith)) (by v)
+right-beyond v opcode h = rw (beyond v opcode h, row-beyond opcode h, ne-eqb opcode sincos (λ e. omega arith)) (by v)
   where
     by : (v : Version) → eqb (found (rank v) limit 0) 0 ≡ true
     by V2 = refl
@@ -99,7 +99,7 @@ right-beyond v opcode h = rw (beyond v opcode h, row-beyond opcode h, ne-eqb opc
     by P3 = refl
 
 agrees : (v : Version) (opcode : ℕ) → right v opcode ≡ true
-unfolding rows entryOf typedPlaces classOf shapeOf rowOf
+unfolding rows entryOf typedPlaces classOf classes shapeOf rowOf
 agrees = computed right limit refl right-beyond
 
 -- what the code finds is what the paper's table says

@@ -4,32 +4,33 @@ use mathlib.Core.List.{List, [], _∷_}
 use lib.Dec.{eqb}
 use lib.ListN.{length}
 use Rattle.paper.specs.Notation.{pick, among}
-use Rattle.paper.specs.OpcodeTable.{Letter, Entry, absent, listed, entryOf, IFC, BREAKC, SETP, TEX}
+use Rattle.paper.specs.OpcodeTable.{IFC, BREAKC, SETP, TEX}
 use Rattle.paper.specs.InstructionToken.{mayBePredicated}
-use Rattle.paper.specs.OperandTokens.{placesFrom}
 use Rattle.paper.specs.Blocks.{classOf}
 use Rattle.paper.specs.declared.Version.{Version}
+use Rattle.paper.specs.Places.{Entry, absent, listed, entryOf, Place}
+use Rattle.opcodes.specs.Places.{numberBy}
 use Rattle.opcodes.specs.Classes.{classNumber}
 
 -- a row of places as one number: a digit of base 128 for each, the first place lowest; no place has number 0
-abbrev pub digits : List ℕ → ℕ
+abbrev pub digits : List Place → ℕ
 digits [] = 0
-digits (place ∷ places) = place + 128 * digits places
+digits (place ∷ places) = numberBy place + 128 * digits places
 
 -- which rule the controls obey: 0 they are zero, 1 they are 1 to 6, 2 they are 0 to 2
 abbrev pub controlsRule : ℕ → ℕ
 controlsRule opcode = pick (among opcode (IFC ∷ BREAKC ∷ SETP ∷ [])) 1 (pick (eqb opcode TEX) 2 0)
 
 -- behind how many operands the predicate stands; 0 where the instruction may not be predicated
-abbrev pub predicateStep : Version → ℕ → List Letter → ℕ
-predicateStep v opcode letters = pick (mayBePredicated v opcode letters) (length letters) 0
+abbrev pub predicateStep : Version → ℕ → List Place → ℕ
+predicateStep v opcode places = pick (mayBePredicated v opcode places) (length places) 0
 
 -- bits 34:0 the places, 37:35 the predicate's step, 39:38 the rule of the controls, bit 40 one, 44:41 the class; an opcode that is not in the table has shape 0
 abbrev pub shapeIn : Version → ℕ → Entry → ℕ
 shapeIn v opcode absent = 0
-shapeIn v opcode (listed letters) =
-    digits (placesFrom opcode 0 letters)
-    + (2 ^ 35 * predicateStep v opcode letters + (2 ^ 38 * controlsRule opcode + (2 ^ 40 + 2 ^ 41 * classNumber (classOf opcode))))
+shapeIn v opcode (listed places) =
+    digits places
+    + (2 ^ 35 * predicateStep v opcode places + (2 ^ 38 * controlsRule opcode + (2 ^ 40 + 2 ^ 41 * classNumber (classOf opcode))))
 
 unfoldable pub shapeOf : Version → ℕ → ℕ
 shapeOf v opcode = shapeIn v opcode (entryOf v opcode)

@@ -3,8 +3,7 @@ mod rows;
 
 ghost use mathlib.Core.Path.{_≡_};
 ghost use Rattle.opcodes.specs.Shape.{shapeOf};
-ghost use Rattle.opcodes.specs.Rows.{rowOf};
-ghost use Rattle.paper.specs.Versions.{rank};
+ghost use Rattle.opcodes.specs.Rows.{rank, rowOf};
 use paper::Version;
 
 // The row of an opcode; 0 for one that is in no row. One arm for each opcode: only so does it become one table in memory.

@@ -53,12 +53,14 @@ const ALL_BUT_P2: u64 = 0xB;
 
 const P3_ALONE: u64 = 0x8;
 
-// Places, as specs/OperandTokens.antt of the paper numbers them: D and S are the free ones, a typed one adds its type.
+// Places, as specs/Places.antt numbers them: D and S are the free ones, a typed one adds its type.
 const RAW: u64 = 1;
 
 const USAGE: u64 = 2;
 
 const DESTINATION: u64 = 32;
+
+const DECLARED: u64 = 61;
 
 const KILLED: u64 = 62;
 
@@ -113,7 +115,7 @@ const BREAKP: u64 = BREAKS + FIRST * (SOURCE + 19);
 
 const COMPARED: u64 = COMPARISON + FIRST * (S + NEXT * S);
 
-const DCL: u64 = PLAIN + FIRST * (USAGE + NEXT * D);
+const DCL: u64 = PLAIN + FIRST * (USAGE + NEXT * DECLARED);
 
 const RRRR: u64 = RAW + NEXT * (RAW + NEXT * (RAW + NEXT * RAW));
 

@@ -8,10 +8,10 @@ use native.Mathlib.Omega.{arith}
 use lib.Dec.{eqb}
 use lib.ListN.{length, drop, getD, length-drop, drop-of-length-le}
 use lib.Seq.{drop-cons, drop-drop}
-use borrow.Author.Tests.{eq-eqb, ne-eqb, eqb-true}
+use borrow.Author.Tests.{eqb-true}
 use Rattle.paper.specs.Notation.{bit, pick}
 use Rattle.paper.specs.Numbers.{refusal, toldToken}
-use Rattle.paper.specs.OperandTokens.{raw, relative, freeSource, freeDestination, tokenAt, bringsRelative}
+use Rattle.paper.specs.OperandTokens.{isFree, tokenAt, bringsRelative}
 use Rattle.paper.specs.Instruction.{onToken, relativeToken, operand, onTaken, operands}
 use Rattle.paper.specs.declared.Version.{Version}
 use Rattle.paper.specs.declared.Reason.the-variants.{Size as SIZE}
@@ -21,7 +21,8 @@ use Rattle.paper.specs.declared.Token.the-variants.{Good, Bad}
 use Rattle.paper.specs.declared.Taken.{Taken}
 use Rattle.paper.specs.declared.Taken.the-variants.{Took, Refused}
 use Rattle.paper.specs.declared.Operands.the-variants.{Fit, Refused as Unfit}
-use Rattle.opcodes.specs.Places.{placesIn, decoded}
+use Rattle.paper.specs.Places.{Place, raw, relative}
+use Rattle.opcodes.specs.Places.{placeBy, placesIn, decoded}
 use Rattle.tokens.proofs.Laws.{raw-good, not-free-not-relative}
 use Rattle.operands.specs.Numbered.{takenNumber}
 use Rattle.operands.proofs.Numbers.{on-token-number, taken-pick}
@@ -35,12 +36,12 @@ pub relative-at : (v : Version) (offset at : ℕ) (behind : List ℕ) → at < l
     relativeToken v offset (drop at behind) ≡ onToken (tokenAt v relative (getD behind at 0)) offset (Took 2)
 relative-at v offset at behind h = rw (drop-cons behind at 0 h)
 
-pub operand-none : (v : Version) (place offset at : ℕ) (behind : List ℕ) → length behind ≤ at →
+pub operand-none : (v : Version) (place : Place) (offset at : ℕ) (behind : List ℕ) → length behind ≤ at →
     operand v place offset (drop at behind) ≡ Refused (refusal SIZE 0)
 unfolding operand
 operand-none v place offset at behind h = rw (drop-of-length-le behind h)
 
-pub operand-at : (v : Version) (place offset at : ℕ) (behind : List ℕ) → at < length behind →
+pub operand-at : (v : Version) (place : Place) (offset at : ℕ) (behind : List ℕ) → at < length behind →
     operand v place offset (drop at behind) ≡
     onToken (tokenAt v place (getD behind at 0)) offset
     (pick (bringsRelative place (getD behind at 0)) (relativeToken v (offset + 1) (drop (at + 1) behind)) (Took 1))
@@ -54,7 +55,7 @@ pub relative-number : (v : Version) (offset at told : ℕ) (behind : List ℕ) �
 relative-number v offset at told behind h e =
     rw (relative-at v offset at behind h) (on-token-number (tokenAt v relative (getD behind at 0)) told offset (Took 2) e)
 
-module _ (v : Version) (place offset at told : ℕ) (behind : List ℕ) (h : at < length behind) where
+module _ (v : Version) (place : Place) (offset at told : ℕ) (behind : List ℕ) (h : at < length behind) where
   abbrev token : ℕ
   token = getD behind at 0
 
@@ -68,27 +69,27 @@ module _ (v : Version) (place offset at told : ℕ) (behind : List ℕ) (h : at 
         rw (operand-at v place offset at behind h, ← (taken-pick (bringsRelative place token) brought (Took 1)))
         (on-token-number (tokenAt v place token) told offset (pick (bringsRelative place token) brought (Took 1)) e)
 
-    pub free-number : (place ≡ raw → ⊥) → takenNumber (operand v place offset (drop at behind)) ≡
+    pub free-number : bringsRelative place token ≡ eqb (bit 13 token) 1 → takenNumber (operand v place offset (drop at behind)) ≡
         pick (eqb told 0) (pick (eqb (bit 13 token) 1) (takenNumber brought) 2) (32 * offset + (2 * told + 1))
-    free-number n = operand-number ∙ rw (ne-eqb place raw n) refl
+    free-number b = operand-number ∙ rw b refl
 
-    typed-by : (z : Bool) → eqb told 0 ≡ z → (place ≡ freeSource → ⊥) → (place ≡ freeDestination → ⊥) →
+    typed-by : (z : Bool) → eqb told 0 ≡ z → isFree place ≡ false →
         pick z (pick (bringsRelative place token) (takenNumber brought) 2) (32 * offset + (2 * told + 1)) ≡
         pick z 2 (32 * offset + (2 * told + 1))
-    typed-by true z no-source no-destination =
-        rw (not-free-not-relative v place token no-source no-destination (sym e ∙ eqb-true told 0 z)) refl
-    typed-by false z no-source no-destination = refl
+    typed-by true z not-free =
+        rw (not-free-not-relative v place token not-free (sym e ∙ eqb-true told 0 z)) refl
+    typed-by false z not-free = refl
 
-    pub typed-number : (place ≡ freeSource → ⊥) → (place ≡ freeDestination → ⊥) →
+    pub typed-number : isFree place ≡ false →
         takenNumber (operand v place offset (drop at behind)) ≡ pick (eqb told 0) 2 (32 * offset + (2 * told + 1))
-    typed-number no-source no-destination = operand-number ∙ typed-by (eqb told 0) refl no-source no-destination
+    typed-number not-free = operand-number ∙ typed-by (eqb told 0) refl not-free
 
   pub raw-number : place ≡ raw → takenNumber (operand v place offset (drop at behind)) ≡ 2
   raw-number r =
-      rw (operand-at v place offset at behind h, ← (raw-good v place token (eq-eqb place raw r)), eq-eqb place raw r) refl
+      rw (operand-at v place offset at behind h, r, ← (raw-good v raw token refl)) refl
 
 -- an operand takes tokens that are there
-module _ (v : Version) (place offset n : ℕ) where
+module _ (v : Version) (place : Place) (offset n : ℕ) where
   relative-fits : (token : Token) (rest : List ℕ) → onToken token (offset + 1) (Took 2) ≡ Took n → n ≤ suc (suc (length rest))
   relative-fits Good rest e = let two : 2 ≡ n = cc in omega arith
   relative-fits (Bad reason) rest e = let z : _≡_ {A = ℕ} 0 1 = cc in absurd (omega arith)
@@ -135,7 +136,7 @@ places-few : (f p : ℕ) → length (placesIn f p) ≤ f
 places-few zero p = omega arith
 places-few (suc f) p = one-more (eqb p 0) (placesIn f (p / 128)) (places-few f (p / 128))
   where
-    one-more : (none : Bool) (rest : List ℕ) → length rest ≤ f → length (pick none [] (p % 128 ∷ rest)) ≤ suc f
+    one-more : (none : Bool) (rest : List Place) → length rest ≤ f → length (pick none [] (placeBy (p % 128) ∷ rest)) ≤ suc f
     one-more true rest h = omega arith
     one-more false rest h = omega arith
 
@@ -149,17 +150,17 @@ decoded-less p fits some = rw (decoded-step p fits some) refl
 -- the operands whose places are the digits of a number
 module _ (v : Version) (left at : ℕ) (behind : List ℕ) (fits : left < 2 ^ 64) (some : left ≡ 0 → ⊥) where
   first-place : operands v (decoded left) (at + 1) (drop at behind) ≡
-      onTaken (operand v (left % 128) (at + 1) (drop at behind)) (λ n. operands v (decoded (left / 128)) (at + 1 + n) (drop n (drop at behind)))
+      onTaken (operand v (placeBy (left % 128)) (at + 1) (drop at behind)) (λ n. operands v (decoded (left / 128)) (at + 1 + n) (drop n (drop at behind)))
   unfolding operands
   first-place = rw (decoded-step left fits some)
 
-  pub operands-on : (n : ℕ) → operand v (left % 128) (at + 1) (drop at behind) ≡ Took n →
+  pub operands-on : (n : ℕ) → operand v (placeBy (left % 128)) (at + 1) (drop at behind) ≡ Took n →
       operands v (decoded (left / 128)) (at + n + 1) (drop (at + n) behind) ≡ operands v (decoded left) (at + 1) (drop at behind)
   operands-on n e =
       let k : at + 1 + n ≡ at + n + 1 = omega arith in
       sym (first-place ∙ rw (e, drop-drop n at behind, k) refl)
 
-  pub operands-refused : (r : Refusal) → operand v (left % 128) (at + 1) (drop at behind) ≡ Refused r →
+  pub operands-refused : (r : Refusal) → operand v (placeBy (left % 128)) (at + 1) (drop at behind) ≡ Refused r →
       operands v (decoded left) (at + 1) (drop at behind) ≡ Unfit r
   operands-refused r e = first-place ∙ rw e refl
 

@@ -5,11 +5,11 @@ ghost use lib.Dec.{eqb};
 ghost use lib.ListN.{length, drop};
 ghost use Rattle.paper.specs.Notation.{bit, pick};
 ghost use Rattle.paper.specs.Instruction.{relativeToken, operand, operands};
-ghost use Rattle.opcodes.specs.Places.{decoded};
+ghost use Rattle.opcodes.specs.Places.{placeBy, decoded};
 ghost use Rattle.operands.specs.Numbered.{takenNumber, operandsNumber};
 use paper::Version;
 
-// Places of specs/OperandTokens.antt.
+// Places, by their numbers in specs/Places.antt of the opcodes.
 const RAW: u64 = 1;
 
 const FREE_DESTINATION: u64 = 63;
@@ -75,7 +75,7 @@ fn take_typed(told: u64, at: usize) -> u64
 // The operand at `at` of the tokens behind the instruction token.
 fn take_operand(version: Version, place: u64, behind: &[u32], at: usize) -> u64
     requires { ⌜ (at ≤ length (now behind)) × (at < 32) ⌝ }
-    ensures { λ r. ⌜ r ≡ takenNumber (operand version place (at + 1) (drop at (now (behind .entry)))) ⌝ }
+    ensures { λ r. ⌜ r ≡ takenNumber (operand version (placeBy place) (at + 1) (drop at (now (behind .entry)))) ⌝ }
 {
     if behind.len() <= at {
         return SIZE;

@@ -1,3 +1,4 @@
 pub mod Below
 pub mod OneToOne
 pub mod Vectors
+pub mod LowBits

@@ -2,10 +2,10 @@
 -- and a block holds bodies: IF or IFC, body, at most one ELSE with a body, ENDIF; LOOP, body, ENDLOOP; REP, body, ENDREP."
 use Prim.Native.Nat.{ℕ, zero, suc, _<_}
 use mathlib.Core.Path.{_≡_}
-use mathlib.Core.Bool.{Bool, true, false, _||_}
-use lib.Dec.{eqb}
-use Rattle.paper.specs.Notation.{pick}
-use Rattle.paper.specs.OpcodeTable
+use mathlib.Core.Bool.{Bool, true, false}
+use mathlib.Core.List.{List, [], _∷_}
+use Rattle.paper.specs.Notation.{pick, among}
+use Rattle.paper.specs.OpcodeTable.{IF, IFC, LOOP, REP, ELSE, ENDIF, ENDLOOP, ENDREP, BREAK, BREAKC, BREAKP, LABEL, RET}
 use Rattle.paper.specs.declared.Single.{Single}
 use Rattle.paper.specs.declared.Single.the-variants.{Comment, Plain, Break, Label, Return}
 use Rattle.paper.specs.declared.Opener.{Opener}
@@ -16,19 +16,36 @@ use Rattle.paper.specs.declared.Class.{Class}
 use Rattle.paper.specs.declared.Class.the-variants.{One, Opens, Closes}
 use Rattle.paper.specs.declared.Refusal.{Refusal}
 
--- what an opcode is to the blocks
+-- what opcodes are to the blocks
+pub record Classed : Type 0 where
+  pub opcodes : List ℕ
+  pub class : Class
+
+abbrev pub classed : List ℕ → Class → Classed
+classed opcodes class = record { opcodes = opcodes; class = class }
+
+unfoldable pub classes : List Classed
+classes =
+    classed (IF ∷ IFC ∷ []) (Opens If) ∷
+    classed (LOOP ∷ []) (Opens Loop) ∷
+    classed (REP ∷ []) (Opens Rep) ∷
+    classed (ELSE ∷ []) (Closes Else) ∷
+    classed (ENDIF ∷ []) (Closes EndIf) ∷
+    classed (ENDLOOP ∷ []) (Closes EndLoop) ∷
+    classed (ENDREP ∷ []) (Closes EndRep) ∷
+    classed (BREAK ∷ BREAKC ∷ BREAKP ∷ []) (One Break) ∷
+    classed (LABEL ∷ []) (One Label) ∷
+    classed (RET ∷ []) (One Return) ∷
+    []
+
+-- any other opcode of the table is one instruction that may stand anywhere
+abbrev pub classAmong : List Classed → ℕ → Class
+classAmong [] opcode = One Plain
+classAmong (row ∷ rows) opcode = pick (among opcode (row .opcodes)) (row .class) (classAmong rows opcode)
+
 unfoldable pub classOf : ℕ → Class
-classOf opcode =
-    pick (eqb opcode OpcodeTable.IF || eqb opcode OpcodeTable.IFC) (Opens If)
-    (pick (eqb opcode OpcodeTable.LOOP) (Opens Loop)
-    (pick (eqb opcode OpcodeTable.REP) (Opens Rep)
-    (pick (eqb opcode OpcodeTable.ELSE) (Closes Else)
-    (pick (eqb opcode OpcodeTable.ENDIF) (Closes EndIf)
-    (pick (eqb opcode OpcodeTable.ENDLOOP) (Closes EndLoop)
-    (pick (eqb opcode OpcodeTable.ENDREP) (Closes EndRep)
-    (pick (eqb opcode OpcodeTable.BREAK || (eqb opcode OpcodeTable.BREAKC || eqb opcode OpcodeTable.BREAKP)) (One Break)
-    (pick (eqb opcode OpcodeTable.LABEL) (One Label)
-    (pick (eqb opcode OpcodeTable.RET) (One Return) (One Plain))))))))))
+unfolding classes
+classOf opcode = classAmong classes opcode
 
 -- A stream from some position on, cut into instructions: no token is left; an instruction that is refused, with its position and the refusal;
 -- an instruction's class, its position, and what follows.
@@ -42,12 +59,12 @@ isZero zero = true
 isZero (suc n) = false
 
 -- "BREAK, BREAKC, BREAKP stand inside some LOOP or REP, at any depth. LABEL and RET stand in no block."
-abbrev pub stands : ℕ → Bool → Single → Bool
-stands depth inLoop Comment = true
-stands depth inLoop Plain = true
-stands depth inLoop Break = inLoop
-stands depth inLoop Label = isZero depth
-stands depth inLoop Return = isZero depth
+abbrev pub mayStand : ℕ → Bool → Single → Bool
+mayStand depth inLoop Comment = true
+mayStand depth inLoop Plain = true
+mayStand depth inLoop Break = inLoop
+mayStand depth inLoop Label = isZero depth
+mayStand depth inLoop Return = isZero depth
 
 abbrev pub loopsIn : Opener → Bool → Bool
 loopsIn If inLoop = inLoop
@@ -71,7 +88,7 @@ mutual
 
   pub data Item : ℕ → Bool → Cut → Cut → Type 0 where
     one : {depth : ℕ} {inLoop : Bool} {s : Single} {p : ℕ} {a : Cut} →
-        stands depth inLoop s ≡ true → Item depth inLoop (then (One s) p a) a
+        mayStand depth inLoop s ≡ true → Item depth inLoop (then (One s) p a) a
     block : {depth : ℕ} {inLoop : Bool} {a b : Cut} → depth < mostOpen → Block depth inLoop a b → Item depth inLoop a b
 
   pub data Block : ℕ → Bool → Cut → Cut → Type 0 where

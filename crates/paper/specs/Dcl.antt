@@ -1,20 +1,18 @@
 -- Document 01, "DCL".
 use Prim.Native.Nat.{ℕ}
-use mathlib.Core.Bool.{Bool, true, false, not, _&&_, _||_}
+use mathlib.Core.Bool.{Bool, true, not, _&&_, _||_}
 use mathlib.Core.List.{List, [], _∷_}
 use lib.Dec.{eqb, leb}
-use Rattle.paper.specs.Notation.{bits, bit, pick, setOf, holds}
+use Rattle.paper.specs.Notation.{bits, bit, pick, among}
 use Rattle.paper.specs.Versions.{isPixel}
-use Rattle.paper.specs.Numbers.{refusal}
-use Rattle.paper.specs.OperandTokens.{numberField, typeOf, declared, destinationLaid, layoutThenType, leftOver}
+use Rattle.paper.specs.Places.{declared}
+use Rattle.paper.specs.OperandTokens.{numberField, typeOf, laid, layoutThenType, refusedOperands, leftOver}
 use Rattle.paper.specs.declared.Version.{Version}
 use Rattle.paper.specs.declared.Version.the-variants.{V2, V3, P2, P3}
-use Rattle.paper.specs.declared.Reason.{Reason}
 use Rattle.paper.specs.declared.Reason.the-variants.{Size as SIZE, Operand as OPERAND}
 use Rattle.paper.specs.declared.Token.{Token}
 use Rattle.paper.specs.declared.Token.the-variants.{Good, Bad}
 use Rattle.paper.specs.declared.Operands.{Operands}
-use Rattle.paper.specs.declared.Operands.the-variants.{Refused}
 
 -- "Sampler: 26:0 zero, 30:27 is 2, 3 or 4."
 abbrev pub samplerForm : ℕ → Bool
@@ -45,27 +43,27 @@ pixelUsage token =
     && ((eqb (usageOf token) 5 && leb (indexOf token) 7) || (eqb (usageOf token) 10 && eqb (indexOf token) 0))
 
 -- the types of each form
-abbrev pub samplerTypes : Version → ℕ
-samplerTypes V2 = setOf []
-samplerTypes V3 = setOf (10 ∷ [])
-samplerTypes P2 = setOf (10 ∷ [])
-samplerTypes P3 = setOf (10 ∷ [])
+abbrev pub samplerTypes : Version → List ℕ
+samplerTypes V2 = []
+samplerTypes V3 = 10 ∷ []
+samplerTypes P2 = 10 ∷ []
+samplerTypes P3 = 10 ∷ []
 
-abbrev pub plainTypes : Version → ℕ
-plainTypes V2 = setOf []
-plainTypes V3 = setOf []
-plainTypes P2 = setOf (1 ∷ 3 ∷ [])
-plainTypes P3 = setOf (17 ∷ [])
+abbrev pub plainTypes : Version → List ℕ
+plainTypes V2 = []
+plainTypes V3 = []
+plainTypes P2 = 1 ∷ 3 ∷ []
+plainTypes P3 = 17 ∷ []
 
-abbrev pub usageTypes : Version → ℕ
-usageTypes V2 = setOf (1 ∷ [])
-usageTypes V3 = setOf (1 ∷ 6 ∷ [])
-usageTypes P2 = setOf []
-usageTypes P3 = setOf (1 ∷ 3 ∷ [])
+abbrev pub usageTypes : Version → List ℕ
+usageTypes V2 = 1 ∷ []
+usageTypes V3 = 1 ∷ 6 ∷ []
+usageTypes P2 = []
+usageTypes P3 = 1 ∷ 3 ∷ []
 
 -- "Any other type is REGISTER."
 abbrev pub isDeclared : Version → ℕ → Bool
-isDeclared v type = holds (samplerTypes v) type || (holds (plainTypes v) type || holds (usageTypes v) type)
+isDeclared v type = among type (samplerTypes v) || (among type (plainTypes v) || among type (usageTypes v))
 
 -- "P3 type 17, number 0 position or 1 face (face: mask F, bits 23:20 zero); another number or face is OPERAND at the destination"
 abbrev pub positionOrFace : ℕ → Bool
@@ -79,32 +77,28 @@ faceLaid V3 token = true
 faceLaid P2 token = true
 faceLaid P3 token = not (eqb (typeOf token) 17) || positionOrFace token
 
--- the destination of a DCL: no free place, so bit 13 is zero
 abbrev pub declaredAt : Version → ℕ → Token
 declaredAt v token =
-    layoutThenType (destinationLaid v declared token && faceLaid v token) (isDeclared v (typeOf token))
+    layoutThenType (laid v declared token && faceLaid v token) (isDeclared v (typeOf token))
 
 -- "U has bit 31 set and one form"
 abbrev pub formLaid : Version → ℕ → ℕ → Bool
 formLaid v type token =
-    pick (holds (samplerTypes v) type) (samplerForm token)
-    (pick (holds (plainTypes v) type) (plainForm token)
+    pick (among type (samplerTypes v)) (samplerForm token)
+    (pick (among type (plainTypes v)) (plainForm token)
     (pick (isPixel v) (pixelUsage token) (vertexUsage token)))
 
 abbrev pub usageLaid : Version → ℕ → ℕ → Bool
 usageLaid v type token = eqb (bit 31 token) 1 && formLaid v type token
 
-abbrev pub refusedAs : Reason → ℕ → Operands
-refusedAs reason position = Refused (refusal reason position)
-
 abbrev pub onDeclared : Token → Operands → Operands
 onDeclared Good next = next
-onDeclared (Bad reason) next = refusedAs reason 2
+onDeclared (Bad reason) next = refusedOperands reason 2
 
 -- "The destination is judged first, then U": the tokens behind the instruction token are U, the destination, and no more
 unfoldable pub declaration : Version → List ℕ → Operands
-declaration v [] = refusedAs SIZE 0
-declaration v (u ∷ []) = refusedAs SIZE 0
+declaration v [] = refusedOperands SIZE 0
+declaration v (u ∷ []) = refusedOperands SIZE 0
 declaration v (u ∷ (d ∷ rest)) =
     onDeclared (declaredAt v d)
-    (pick (usageLaid v (typeOf d) u) (leftOver rest) (refusedAs OPERAND 1))
+    (pick (usageLaid v (typeOf d) u) (leftOver rest) (refusedOperands OPERAND 1))

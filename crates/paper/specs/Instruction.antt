@@ -1,16 +1,16 @@
 -- Document 01, "The numbers given back": the order within one instruction. "OPCODE, BITS, RUN-OUT, operands left to right
 -- (an operand beyond the stated size is SIZE; each token: layout, then type), SIZE for tokens left over".
 -- Positions count from the instruction's first token.
-use Prim.Native.Nat.{ℕ, zero, suc, _+_}
-use mathlib.Core.Bool.{Bool, true, false}
+use Prim.Native.Nat.{ℕ, _+_}
 use mathlib.Core.List.{List, [], _∷_}
 use lib.Dec.{eqb, leb}
 use lib.ListN.{length, take, drop}
-use Rattle.paper.specs.Notation.{bit, pick}
+use Rattle.paper.specs.Notation.{pick}
 use Rattle.paper.specs.Numbers.{refusal}
-use Rattle.paper.specs.OpcodeTable.{Letter, Entry, absent, listed, entryOf, DCL}
-use Rattle.paper.specs.InstructionToken.{opcodeOf, statedSize, isPredicated, bitsLaid, commentOpcode, commentLength, commentLaid, endOpcode, endToken}
-use Rattle.paper.specs.OperandTokens.{relative, tokenAt, bringsRelative, placesFrom, withPredicate, leftOver}
+use Rattle.paper.specs.OpcodeTable.{DCL}
+use Rattle.paper.specs.Places.{Place, relative, Entry, absent, listed, entryOf}
+use Rattle.paper.specs.InstructionToken.{opcodeOf, statedSize, isPredicated, withPredicate, bitsLaid, commentOpcode, commentLength, commentLaid, endOpcode, endToken}
+use Rattle.paper.specs.OperandTokens.{tokenAt, bringsRelative, leftOver}
 use Rattle.paper.specs.Dcl.{declaration}
 use Rattle.paper.specs.Blocks.{classOf}
 use Rattle.paper.specs.declared.Version.{Version}
@@ -37,16 +37,13 @@ pub data Head : Type 0 where
   end : Head
   comment : ℕ → Head
   dcl : ℕ → Head
-  operation : List ℕ → ℕ → Head
-
-abbrev pub places : ℕ → List Letter → List ℕ
-places token letters = withPredicate (isPredicated token) (placesFrom (opcodeOf token) 0 letters)
+  operation : List Place → ℕ → Head
 
 abbrev pub headOf : Version → ℕ → Entry → Head
 headOf v token absent = broken OPCODE
-headOf v token (listed letters) =
-    pick (bitsLaid v token letters)
-    (pick (eqb (opcodeOf token) DCL) (dcl (statedSize token)) (operation (places token letters) (statedSize token)))
+headOf v token (listed places) =
+    pick (bitsLaid v token places)
+    (pick (eqb (opcodeOf token) DCL) (dcl (statedSize token)) (operation (withPredicate (isPredicated token) places) (statedSize token)))
     (broken BITS)
 
 unfoldable pub head : Version → ℕ → Head
@@ -64,7 +61,7 @@ abbrev pub relativeToken : Version → ℕ → List ℕ → Taken
 relativeToken v offset [] = refused (refusal SIZE 0)
 relativeToken v offset (token ∷ rest) = onToken (tokenAt v relative token) offset (took 2)
 
-unfoldable pub operand : Version → ℕ → ℕ → List ℕ → Taken
+unfoldable pub operand : Version → Place → ℕ → List ℕ → Taken
 operand v place offset [] = refused (refusal SIZE 0)
 operand v place offset (token ∷ rest) =
     onToken (tokenAt v place token) offset
@@ -75,7 +72,7 @@ onTaken (took n) next = next n
 onTaken (refused r) next = unfit r
 
 -- the places from left to right, with the offset of the next token and the tokens of the stated size that are left
-unfoldable pub operands : Version → List ℕ → ℕ → List ℕ → Operands
+unfoldable pub operands : Version → List Place → ℕ → List ℕ → Operands
 operands v [] offset tokens = leftOver tokens
 operands v (place ∷ rest) offset tokens =
     onTaken (operand v place offset tokens) (λ n. operands v rest (offset + n) (drop n tokens))
@@ -91,7 +88,7 @@ within size rest next = pick (leb size (length rest)) next (Refused (refusal RUN
 abbrev pub onHead : Version → Head → Class → List ℕ → Judged
 onHead v (broken reason) class rest = Refused (refusal reason 0)
 onHead v end class rest = Good 0 (Closes End)
-onHead v (comment length) class rest = within length rest (Good length (One Comment))
+onHead v (comment size) class rest = within size rest (Good size (One Comment))
 onHead v (dcl size) class rest = within size rest (onOperands (declaration v (take size rest)) size class)
 onHead v (operation places size) class rest = within size rest (onOperands (operands v places 1 (take size rest)) size class)
 

@@ -1,11 +1,12 @@
 -- Document 01, "Instruction token": its bits, the comment and END.
 use Prim.Native.Nat.{ℕ}
-use mathlib.Core.Bool.{Bool, true, false, not, _&&_, _||_}
+use mathlib.Core.Bool.{Bool, false, not, _&&_, _||_}
 use mathlib.Core.List.{List, [], _∷_}
 use lib.Dec.{eqb, leb}
 use Rattle.paper.specs.Notation.{bits, bit, pick, among}
 use Rattle.paper.specs.Versions.{isThird}
-use Rattle.paper.specs.OpcodeTable.{Letter, D, S, R, U, IFC, BREAKC, SETP, TEX, DCL, DEF, DEFI, DEFB}
+use Rattle.paper.specs.OpcodeTable.{IFC, BREAKC, SETP, TEX, DCL, DEF, DEFI, DEFB}
+use Rattle.paper.specs.Places.{Place, predicate, isDestination}
 use Rattle.paper.specs.declared.Version.{Version}
 
 abbrev pub opcodeOf : ℕ → ℕ
@@ -22,17 +23,20 @@ statedSize token = bits 27 24 token
 abbrev pub isPredicated : ℕ → Bool
 isPredicated token = eqb (bit 28 token) 1
 
-abbrev pub hasDestination : List Letter → Bool
+-- "a D below"
+abbrev pub hasDestination : List Place → Bool
 hasDestination [] = false
-hasDestination (D ∷ letters) = true
-hasDestination (S ∷ letters) = hasDestination letters
-hasDestination (R ∷ letters) = hasDestination letters
-hasDestination (U ∷ letters) = hasDestination letters
+hasDestination (place ∷ places) = isDestination place || hasDestination places
 
 -- "only V3 and P3, and only with a D below other than DCL, DEF, DEFI, DEFB"
-abbrev pub mayBePredicated : Version → ℕ → List Letter → Bool
-mayBePredicated v opcode letters =
-    isThird v && (hasDestination letters && not (among opcode (DCL ∷ DEF ∷ DEFI ∷ DEFB ∷ [])))
+abbrev pub mayBePredicated : Version → ℕ → List Place → Bool
+mayBePredicated v opcode places =
+    isThird v && (hasDestination places && not (among opcode (DCL ∷ DEF ∷ DEFI ∷ DEFB ∷ [])))
+
+-- "The predicate is then one source token, last of the instruction's tokens"
+abbrev pub withPredicate : Bool → List Place → List Place
+withPredicate predicated [] = pick predicated (predicate ∷ []) []
+withPredicate predicated (place ∷ places) = place ∷ withPredicate predicated places
 
 -- "Bits 23:16 are 1 to 6 for IFC, BREAKC, SETP; 0 to 2 for TEX; else 0."
 abbrev pub controlsLaid : ℕ → ℕ → Bool
@@ -41,11 +45,11 @@ controlsLaid opcode controls =
     (pick (eqb opcode TEX) (leb controls 2) (eqb controls 0))
 
 -- "Bits 29 to 31 are zero."
-abbrev pub bitsLaid : Version → ℕ → List Letter → Bool
-bitsLaid v token letters =
+abbrev pub bitsLaid : Version → ℕ → List Place → Bool
+bitsLaid v token places =
     eqb (bits 31 29 token) 0
     && (controlsLaid (opcodeOf token) (controlsOf token)
-    && (eqb (bit 28 token) 0 || mayBePredicated v (opcodeOf token) letters))
+    && (eqb (bit 28 token) 0 || mayBePredicated v (opcodeOf token) places))
 
 -- "Comment: bits 15:0 are FFFE, 30:16 the number of tokens of any content that follow, bit 31 zero."
 abbrev pub commentOpcode : ℕ

@@ -2,8 +2,9 @@
 pub mod Notation
 pub mod Versions
 pub mod Numbers
-pub mod InstructionToken
 pub mod OpcodeTable
+pub mod Places
+pub mod InstructionToken
 pub mod OperandTokens
 pub mod Dcl
 pub mod Instruction

@@ -1,13 +1,12 @@
--- Notation: bits of a token, lists and sets of small numbers, a choice.
-use Prim.Native.Nat.{ℕ, zero, suc, _+_, _-_, _/_, _%_, _^_}
+-- Notation: bits of a token, lists of numbers, a choice.
+use Prim.Native.Nat.{ℕ, suc, _-_, _/_, _%_, _^_}
 use mathlib.Core.Bool.{Bool, true, false, _||_}
 use mathlib.Core.List.{List, [], _∷_}
 use lib.Dec.{eqb}
 
 -- "bits 27:24" of a token
 abbrev pub bits : ℕ → ℕ → ℕ → ℕ
-bits high zero token = token % 2 ^ suc high
-bits high (suc below) token = token / 2 ^ suc below % 2 ^ (high - below)
+bits high low token = token / 2 ^ low % 2 ^ (suc high - low)
 
 -- one bit
 abbrev pub bit : ℕ → ℕ → ℕ
@@ -22,11 +21,3 @@ pick false a b = b
 abbrev pub among : ℕ → List ℕ → Bool
 among n [] = false
 among n (x ∷ xs) = eqb n x || among n xs
-
--- a list of small numbers as one number: each raises its own bit
-abbrev pub setOf : List ℕ → ℕ
-setOf [] = 0
-setOf (k ∷ ks) = 2 ^ k + setOf ks
-
-unfoldable pub holds : ℕ → ℕ → Bool
-holds set k = eqb (set / 2 ^ k % 2) 1

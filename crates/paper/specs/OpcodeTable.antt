@@ -1,89 +1,79 @@
 -- Document 01, "Instruction token": the table of opcodes, row by row.
 use Prim.Native.Nat.{ℕ}
-use mathlib.Core.Bool.{Bool, true, false, _&&_, _||_}
 use mathlib.Core.List.{List, [], _∷_}
-use lib.Dec.{eqb}
-use Rattle.paper.specs.Notation.{pick, among}
-use Rattle.paper.specs.Versions.{rank}
+use Rattle.paper.specs.Versions.{versions}
 use Rattle.paper.specs.declared.Version.{Version}
 use Rattle.paper.specs.declared.Version.the-variants.{V2, V3, P2, P3}
 
--- the opcodes, by the names of d3d9types.h
-abbrev pub NOP : ℕ
-NOP = 0
+-- "D destination, S source, R any 32 bits, U usage token."
+pub data Letter : Type 0 where
+  D S R U : Letter
 
-abbrev pub MOV : ℕ
-MOV = 1
+-- "Opcodes (decimal)", "Operands", "Versions"
+pub record Row : Type 0 where
+  pub opcodes : List ℕ
+  pub operands : List Letter
+  pub allowed : List Version
 
-abbrev pub ADD : ℕ
-ADD = 2
+abbrev pub row : List ℕ → List Letter → List Version → Row
+row opcodes operands allowed = record { opcodes = opcodes; operands = operands; allowed = allowed }
 
-abbrev pub SUB : ℕ
-SUB = 3
+-- each row of the paper above its own; SINCOS has one for each of its forms
+unfoldable pub rows : List Row
+rows =
+    -- "0 NOP"
+    row (0 ∷ []) [] versions ∷
+    -- "1 MOV 6 RCP 7 RSQ 14 EXP 15 LOG 19 FRC 35 ABS 36 NRM"
+    row (1 ∷ 6 ∷ 7 ∷ 14 ∷ 15 ∷ 19 ∷ 35 ∷ 36 ∷ []) (D ∷ S ∷ []) versions ∷
+    -- "16 LIT 46 MOVA 78 EXPP 79 LOGP"
+    row (16 ∷ 46 ∷ 78 ∷ 79 ∷ []) (D ∷ S ∷ []) (V2 ∷ V3 ∷ []) ∷
+    -- "91 DSX 92 DSY"
+    row (91 ∷ 92 ∷ []) (D ∷ S ∷ []) (P3 ∷ []) ∷
+    -- "2 ADD 3 SUB 5 MUL 8 DP3 9 DP4 10 MIN 11 MAX 20 to 24 matrix, 32 POW 33 CRS"
+    row (2 ∷ 3 ∷ 5 ∷ 8 ∷ 9 ∷ 10 ∷ 11 ∷ 20 ∷ 21 ∷ 22 ∷ 23 ∷ 24 ∷ 32 ∷ 33 ∷ []) (D ∷ S ∷ S ∷ []) versions ∷
+    -- "12 SLT 13 SGE 17 DST"
+    row (12 ∷ 13 ∷ 17 ∷ []) (D ∷ S ∷ S ∷ []) (V2 ∷ V3 ∷ []) ∷
+    -- "66 TEX"
+    row (66 ∷ []) (D ∷ S ∷ S ∷ []) (P2 ∷ P3 ∷ []) ∷
+    -- "94 SETP 95 TEXLDL"
+    row (94 ∷ 95 ∷ []) (D ∷ S ∷ S ∷ []) (V3 ∷ P3 ∷ []) ∷
+    -- "4 MAD 18 LRP"
+    row (4 ∷ 18 ∷ []) (D ∷ S ∷ S ∷ S ∷ []) versions ∷
+    -- "34 SGN"
+    row (34 ∷ []) (D ∷ S ∷ S ∷ S ∷ []) (V2 ∷ V3 ∷ []) ∷
+    -- "88 CMP 90 DP2ADD"
+    row (88 ∷ 90 ∷ []) (D ∷ S ∷ S ∷ S ∷ []) (P2 ∷ P3 ∷ []) ∷
+    -- "37 SINCOS", "DSSS"
+    row (37 ∷ []) (D ∷ S ∷ S ∷ S ∷ []) (V2 ∷ P2 ∷ []) ∷
+    -- "in V3 P3 DS"
+    row (37 ∷ []) (D ∷ S ∷ []) (V3 ∷ P3 ∷ []) ∷
+    -- "93 TEXLDD"
+    row (93 ∷ []) (D ∷ S ∷ S ∷ S ∷ S ∷ []) (P3 ∷ []) ∷
+    -- "65 TEXKILL"
+    row (65 ∷ []) (D ∷ []) (P2 ∷ P3 ∷ []) ∷
+    -- "28 RET 29 ENDLOOP 39 ENDREP 42 ELSE 43 ENDIF"
+    row (28 ∷ 29 ∷ 39 ∷ 42 ∷ 43 ∷ []) [] (V2 ∷ V3 ∷ P3 ∷ []) ∷
+    -- "25 CALL 30 LABEL 38 REP 40 IF"
+    row (25 ∷ 30 ∷ 38 ∷ 40 ∷ []) (S ∷ []) (V2 ∷ V3 ∷ P3 ∷ []) ∷
+    -- "26 CALLNZ 27 LOOP"
+    row (26 ∷ 27 ∷ []) (S ∷ S ∷ []) (V2 ∷ V3 ∷ P3 ∷ []) ∷
+    -- "44 BREAK"
+    row (44 ∷ []) [] (V3 ∷ P3 ∷ []) ∷
+    -- "96 BREAKP"
+    row (96 ∷ []) (S ∷ []) (V3 ∷ P3 ∷ []) ∷
+    -- "41 IFC 45 BREAKC"
+    row (41 ∷ 45 ∷ []) (S ∷ S ∷ []) (V3 ∷ P3 ∷ []) ∷
+    -- "31 DCL"
+    row (31 ∷ []) (U ∷ D ∷ []) versions ∷
+    -- "81 DEF"
+    row (81 ∷ []) (D ∷ R ∷ R ∷ R ∷ R ∷ []) versions ∷
+    -- "48 DEFI"
+    row (48 ∷ []) (D ∷ R ∷ R ∷ R ∷ R ∷ []) (V2 ∷ V3 ∷ P3 ∷ []) ∷
+    -- "47 DEFB"
+    row (47 ∷ []) (D ∷ R ∷ []) (V2 ∷ V3 ∷ P3 ∷ []) ∷
+    []
 
-abbrev pub MAD : ℕ
-MAD = 4
-
-abbrev pub MUL : ℕ
-MUL = 5
-
-abbrev pub RCP : ℕ
-RCP = 6
-
-abbrev pub RSQ : ℕ
-RSQ = 7
-
-abbrev pub DP3 : ℕ
-DP3 = 8
-
-abbrev pub DP4 : ℕ
-DP4 = 9
-
-abbrev pub MIN : ℕ
-MIN = 10
-
-abbrev pub MAX : ℕ
-MAX = 11
-
-abbrev pub SLT : ℕ
-SLT = 12
-
-abbrev pub SGE : ℕ
-SGE = 13
-
-abbrev pub EXP : ℕ
-EXP = 14
-
-abbrev pub LOG : ℕ
-LOG = 15
-
-abbrev pub LIT : ℕ
-LIT = 16
-
-abbrev pub DST : ℕ
-DST = 17
-
-abbrev pub LRP : ℕ
-LRP = 18
-
-abbrev pub FRC : ℕ
-FRC = 19
-
-abbrev pub M4x4 : ℕ
-M4x4 = 20
-
-abbrev pub M4x3 : ℕ
-M4x3 = 21
-
-abbrev pub M3x4 : ℕ
-M3x4 = 22
-
-abbrev pub M3x3 : ℕ
-M3x3 = 23
-
-abbrev pub M3x2 : ℕ
-M3x2 = 24
-
+-- the opcodes that other sentences call by name
 abbrev pub CALL : ℕ
 CALL = 25
 
@@ -104,24 +94,6 @@ LABEL = 30
 
 abbrev pub DCL : ℕ
 DCL = 31
-
-abbrev pub POW : ℕ
-POW = 32
-
-abbrev pub CRS : ℕ
-CRS = 33
-
-abbrev pub SGN : ℕ
-SGN = 34
-
-abbrev pub ABS : ℕ
-ABS = 35
-
-abbrev pub NRM : ℕ
-NRM = 36
-
-abbrev pub SINCOS : ℕ
-SINCOS = 37
 
 abbrev pub REP : ℕ
 REP = 38
@@ -162,26 +134,8 @@ TEXKILL = 65
 abbrev pub TEX : ℕ
 TEX = 66
 
-abbrev pub EXPP : ℕ
-EXPP = 78
-
-abbrev pub LOGP : ℕ
-LOGP = 79
-
 abbrev pub DEF : ℕ
 DEF = 81
-
-abbrev pub CMP : ℕ
-CMP = 88
-
-abbrev pub DP2ADD : ℕ
-DP2ADD = 90
-
-abbrev pub DSX : ℕ
-DSX = 91
-
-abbrev pub DSY : ℕ
-DSY = 92
 
 abbrev pub TEXLDD : ℕ
 TEXLDD = 93
@@ -194,64 +148,3 @@ TEXLDL = 95
 
 abbrev pub BREAKP : ℕ
 BREAKP = 96
-
--- "D destination, S source, R any 32 bits, U usage token."
-pub data Letter : Type 0 where
-  D S R U : Letter
-
-pub record Row : Type 0 where
-  pub opcodes : List ℕ
-  pub operands : List Letter
-  pub versions : List Version
-
-abbrev pub row : List ℕ → List Letter → List Version → Row
-row opcodes operands versions = record { opcodes = opcodes; operands = operands; versions = versions }
-
-abbrev pub all : List Version
-all = V2 ∷ V3 ∷ P2 ∷ P3 ∷ []
-
-unfoldable pub rows : List Row
-rows =
-    row (NOP ∷ []) [] all ∷
-    row (MOV ∷ RCP ∷ RSQ ∷ EXP ∷ LOG ∷ FRC ∷ ABS ∷ NRM ∷ []) (D ∷ S ∷ []) all ∷
-    row (LIT ∷ MOVA ∷ EXPP ∷ LOGP ∷ []) (D ∷ S ∷ []) (V2 ∷ V3 ∷ []) ∷
-    row (DSX ∷ DSY ∷ []) (D ∷ S ∷ []) (P3 ∷ []) ∷
-    row (ADD ∷ SUB ∷ MUL ∷ DP3 ∷ DP4 ∷ MIN ∷ MAX ∷ M4x4 ∷ M4x3 ∷ M3x4 ∷ M3x3 ∷ M3x2 ∷ POW ∷ CRS ∷ []) (D ∷ S ∷ S ∷ []) all ∷
-    row (SLT ∷ SGE ∷ DST ∷ []) (D ∷ S ∷ S ∷ []) (V2 ∷ V3 ∷ []) ∷
-    row (TEX ∷ []) (D ∷ S ∷ S ∷ []) (P2 ∷ P3 ∷ []) ∷
-    row (SETP ∷ TEXLDL ∷ []) (D ∷ S ∷ S ∷ []) (V3 ∷ P3 ∷ []) ∷
-    row (MAD ∷ LRP ∷ []) (D ∷ S ∷ S ∷ S ∷ []) all ∷
-    row (SGN ∷ []) (D ∷ S ∷ S ∷ S ∷ []) (V2 ∷ V3 ∷ []) ∷
-    row (CMP ∷ DP2ADD ∷ []) (D ∷ S ∷ S ∷ S ∷ []) (P2 ∷ P3 ∷ []) ∷
-    row (SINCOS ∷ []) (D ∷ S ∷ S ∷ S ∷ []) (V2 ∷ P2 ∷ []) ∷
-    row (SINCOS ∷ []) (D ∷ S ∷ []) (V3 ∷ P3 ∷ []) ∷
-    row (TEXLDD ∷ []) (D ∷ S ∷ S ∷ S ∷ S ∷ []) (P3 ∷ []) ∷
-    row (TEXKILL ∷ []) (D ∷ []) (P2 ∷ P3 ∷ []) ∷
-    row (RET ∷ ENDLOOP ∷ ENDREP ∷ ELSE ∷ ENDIF ∷ []) [] (V2 ∷ V3 ∷ P3 ∷ []) ∷
-    row (CALL ∷ LABEL ∷ REP ∷ IF ∷ []) (S ∷ []) (V2 ∷ V3 ∷ P3 ∷ []) ∷
-    row (CALLNZ ∷ LOOP ∷ []) (S ∷ S ∷ []) (V2 ∷ V3 ∷ P3 ∷ []) ∷
-    row (BREAK ∷ []) [] (V3 ∷ P3 ∷ []) ∷
-    row (BREAKP ∷ []) (S ∷ []) (V3 ∷ P3 ∷ []) ∷
-    row (IFC ∷ BREAKC ∷ []) (S ∷ S ∷ []) (V3 ∷ P3 ∷ []) ∷
-    row (DCL ∷ []) (U ∷ D ∷ []) all ∷
-    row (DEF ∷ []) (D ∷ R ∷ R ∷ R ∷ R ∷ []) all ∷
-    row (DEFI ∷ []) (D ∷ R ∷ R ∷ R ∷ R ∷ []) (V2 ∷ V3 ∷ P3 ∷ []) ∷
-    row (DEFB ∷ []) (D ∷ R ∷ []) (V2 ∷ V3 ∷ P3 ∷ []) ∷
-    []
-
--- what the table says of an opcode in a version
-pub data Entry : Type 0 where
-  absent : Entry
-  listed : List Letter → Entry
-
-abbrev pub isOne : Version → List Version → Bool
-isOne v [] = false
-isOne v (w ∷ ws) = eqb (rank v) (rank w) || isOne v ws
-
-abbrev pub lookup : List Row → Version → ℕ → Entry
-lookup [] v opcode = absent
-lookup (r ∷ rs) v opcode = pick (isOne v (r .versions) && among opcode (r .opcodes)) (listed (r .operands)) (lookup rs v opcode)
-
-unfoldable pub entryOf : Version → ℕ → Entry
-unfolding rows
-entryOf v opcode = lookup rows v opcode

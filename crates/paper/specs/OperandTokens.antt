@@ -1,16 +1,16 @@
 -- Document 01, "Operand tokens".
-use Prim.Native.Nat.{ℕ, zero, suc, _+_, _*_, _/_, _%_, _^_}
-use mathlib.Core.Bool.{Bool, true, false, _&&_, _||_}
+use Prim.Native.Nat.{ℕ, _+_, _*_}
+use mathlib.Core.Bool.{Bool, true, false, not, _&&_, _||_}
 use mathlib.Core.List.{List, [], _∷_}
 use lib.Dec.{eqb}
-use Rattle.paper.specs.Notation.{bits, bit, pick, setOf, holds}
+use Rattle.paper.specs.Notation.{bits, bit, pick, among}
 use Rattle.paper.specs.Versions.{isPixel, isThird}
-use Rattle.paper.specs.OpcodeTable
-use Rattle.paper.specs.OpcodeTable.{Letter, D, S, R, U}
+use Rattle.paper.specs.Numbers.{refusal}
+use Rattle.paper.specs.Places.{Types, free, only, Place, raw, usage, declared, destination, source, condition, predicate, relative, isRaw, isDestination}
 use Rattle.paper.specs.declared.Version.{Version}
 use Rattle.paper.specs.declared.Version.the-variants.{V2, V3, P2, P3}
+use Rattle.paper.specs.declared.Reason.{Reason}
 use Rattle.paper.specs.declared.Reason.the-variants.{Size as SIZE, Operand as OPERAND, Register as REGISTER}
-use Rattle.paper.specs.Numbers.{refusal}
 use Rattle.paper.specs.declared.Operands.{Operands}
 use Rattle.paper.specs.declared.Operands.the-variants.{Fit, Refused}
 use Rattle.paper.specs.declared.Token.{Token}
@@ -25,98 +25,6 @@ typeOf token = bits 30 28 token + 8 * bits 12 11 token
 
 abbrev pub modifierOf : ℕ → ℕ
 modifierOf token = bits 27 24 token
-
--- The places at which an operand token stands, by number. A place of one type is that type, plus 32 for a destination or 64 for a source;
--- those with a name of their own take numbers that are no register's type.
-abbrev pub raw : ℕ
-raw = 1
-
-abbrev pub usage : ℕ
-usage = 2
-
-abbrev pub destinationOf : ℕ → ℕ
-destinationOf type = 32 + type
-
-abbrev pub declared : ℕ
-declared = 61
-
-abbrev pub killed : ℕ
-killed = 62
-
-abbrev pub freeDestination : ℕ
-freeDestination = 63
-
-abbrev pub sourceOf : ℕ → ℕ
-sourceOf type = 64 + type
-
-abbrev pub condition : ℕ
-condition = 92
-
-abbrev pub predicate : ℕ
-predicate = 93
-
-abbrev pub relative : ℕ
-relative = 94
-
-abbrev pub freeSource : ℕ
-freeSource = 95
-
-abbrev pub isDestination : ℕ → Bool
-isDestination place = eqb (place / 32) 1
-
--- "Types.": opcode, which of its operands, and the place
-pub record Typed : Type 0 where
-  pub opcode : ℕ
-  pub operand : ℕ
-  pub place : ℕ
-
-abbrev pub at : ℕ → ℕ → ℕ → Typed
-at opcode operand place = record { opcode = opcode; operand = operand; place = place }
-
-unfoldable pub typedPlaces : List Typed
-typedPlaces =
-    at OpcodeTable.DEF 0 (destinationOf 2) ∷
-    at OpcodeTable.DEFI 0 (destinationOf 7) ∷
-    at OpcodeTable.DEFB 0 (destinationOf 14) ∷
-    at OpcodeTable.SETP 0 (destinationOf 19) ∷
-    at OpcodeTable.MOVA 0 (destinationOf 3) ∷
-    at OpcodeTable.TEXKILL 0 killed ∷
-    at OpcodeTable.CALL 0 (sourceOf 18) ∷
-    at OpcodeTable.LABEL 0 (sourceOf 18) ∷
-    at OpcodeTable.CALLNZ 0 (sourceOf 18) ∷
-    at OpcodeTable.CALLNZ 1 condition ∷
-    at OpcodeTable.IF 0 condition ∷
-    at OpcodeTable.LOOP 0 (sourceOf 15) ∷
-    at OpcodeTable.LOOP 1 (sourceOf 7) ∷
-    at OpcodeTable.REP 0 (sourceOf 7) ∷
-    at OpcodeTable.BREAKP 0 (sourceOf 19) ∷
-    at OpcodeTable.TEX 2 (sourceOf 10) ∷
-    at OpcodeTable.TEXLDL 2 (sourceOf 10) ∷
-    at OpcodeTable.TEXLDD 2 (sourceOf 10) ∷
-    []
-
--- "Every other place but DCL's is free"
-abbrev pub free : Letter → ℕ
-free D = freeDestination
-free S = freeSource
-free R = raw
-free U = usage
-
-abbrev pub placeIn : List Typed → ℕ → ℕ → ℕ → ℕ
-placeIn [] opcode operand other = other
-placeIn (t ∷ ts) opcode operand other =
-    pick (eqb opcode (t .opcode) && eqb operand (t .operand)) (t .place) (placeIn ts opcode operand other)
-
-abbrev pub placesFrom : ℕ → ℕ → List Letter → List ℕ
-unfolding typedPlaces
-placesFrom opcode operand [] = []
-placesFrom opcode operand (letter ∷ letters) =
-    placeIn typedPlaces opcode operand (free letter) ∷ placesFrom opcode (suc operand) letters
-
--- "The predicate is then one source token, last of the instruction's tokens"
-abbrev pub withPredicate : Bool → List ℕ → List ℕ
-withPredicate predicated [] = pick predicated (predicate ∷ []) []
-withPredicate predicated (place ∷ places) = place ∷ withPredicate predicated places
 
 -- "15:14 zero; bit 31 one"
 abbrev pub bothLaid : ℕ → Bool
@@ -135,15 +43,26 @@ relativeDestinations V3 = true
 relativeDestinations P2 = false
 relativeDestinations P3 = false
 
-abbrev pub mayBeRelative : Version → ℕ → Bool
-mayBeRelative v place =
-    pick (eqb place freeSource) (relativeSources v) (pick (eqb place freeDestination) (relativeDestinations v) false)
+abbrev pub isFree : Place → Bool
+isFree raw = false
+isFree usage = false
+isFree declared = false
+isFree (destination free) = true
+isFree (destination (only types)) = false
+isFree (source free) = true
+isFree (source (only types)) = false
+isFree condition = false
+isFree predicate = false
+isFree relative = false
 
-abbrev pub relativeLaid : Version → ℕ → ℕ → Bool
+abbrev pub mayBeRelative : Version → Place → Bool
+mayBeRelative v place = isFree place && pick (isDestination place) (relativeDestinations v) (relativeSources v)
+
+abbrev pub relativeLaid : Version → Place → ℕ → Bool
 relativeLaid v place token = eqb (bit 13 token) 0 || mayBeRelative v place
 
 -- "Destination: mask 19:16 free; bit 20 saturate free in all versions; bits 21 and 22 pixel only; 23 and 27:24 zero."
-abbrev pub destinationLaid : Version → ℕ → ℕ → Bool
+abbrev pub destinationLaid : Version → Place → ℕ → Bool
 destinationLaid v place token =
     bothLaid token
     && ((eqb (bits 22 21 token) 0 || isPixel v)
@@ -151,62 +70,78 @@ destinationLaid v place token =
     && (eqb (bits 27 24 token) 0 && relativeLaid v place token)))
 
 -- "modifier 27:24 is 0 to 6, B, C, or D only with type 19"
-abbrev pub plainModifiers : ℕ
-plainModifiers = setOf (0 ∷ 1 ∷ 2 ∷ 3 ∷ 4 ∷ 5 ∷ 6 ∷ 0xB ∷ 0xC ∷ [])
+abbrev pub plainModifiers : List ℕ
+plainModifiers = 0 ∷ 1 ∷ 2 ∷ 3 ∷ 4 ∷ 5 ∷ 6 ∷ 0xB ∷ 0xC ∷ []
 
 abbrev pub negated : ℕ → ℕ → Bool
 negated modifier type = eqb modifier 0xD && eqb type 19
 
--- the relative token's modifier is zero, the predicate's "modifier 0 or D"
-abbrev pub modifierLaid : ℕ → ℕ → ℕ → Bool
-modifierLaid place modifier type =
-    pick (eqb place relative) (eqb modifier 0)
-    (pick (eqb place predicate) (eqb modifier 0 || negated modifier type)
-    (holds plainModifiers modifier || negated modifier type))
+abbrev pub sourceModifier : ℕ → ℕ → Bool
+sourceModifier modifier type = among modifier plainModifiers || negated modifier type
+
+-- the relative token's modifier is zero, as a destination's; the predicate's "modifier 0 or D"
+abbrev pub modifierLaid : Place → ℕ → ℕ → Bool
+modifierLaid raw modifier type = true
+modifierLaid usage modifier type = true
+modifierLaid declared modifier type = eqb modifier 0
+modifierLaid (destination types) modifier type = eqb modifier 0
+modifierLaid (source types) modifier type = sourceModifier modifier type
+modifierLaid condition modifier type = sourceModifier modifier type
+modifierLaid predicate modifier type = eqb modifier 0 || negated modifier type
+modifierLaid relative modifier type = eqb modifier 0
 
 -- "Source: swizzle 23:16 free"
-abbrev pub sourceLaid : Version → ℕ → ℕ → Bool
+abbrev pub sourceLaid : Version → Place → ℕ → Bool
 sourceLaid v place token =
     bothLaid token && (modifierLaid place (modifierOf token) (typeOf token) && relativeLaid v place token)
 
-abbrev pub laid : Version → ℕ → ℕ → Bool
-laid v place token = pick (isDestination place) (destinationLaid v place token) (sourceLaid v place token)
+-- "R any 32 bits"; U is judged beside its destination, in the section "DCL"
+abbrev pub laid : Version → Place → ℕ → Bool
+laid v raw token = true
+laid v usage token = true
+laid v declared token = destinationLaid v declared token
+laid v (destination types) token = destinationLaid v (destination types) token
+laid v (source types) token = sourceLaid v (source types) token
+laid v condition token = sourceLaid v condition token
+laid v predicate token = sourceLaid v predicate token
+laid v relative token = sourceLaid v relative token
 
 -- "D in vertex 0, 3, 4, 5, 6, in pixel 0, 8, 9; S in vertex 0, 1, 2, 11, 12, 13, in pixel those and 3, 17."
-abbrev pub freeDestinationTypes : Version → ℕ
-freeDestinationTypes v = pick (isPixel v) (setOf (0 ∷ 8 ∷ 9 ∷ [])) (setOf (0 ∷ 3 ∷ 4 ∷ 5 ∷ 6 ∷ []))
+abbrev pub freeDestinationTypes : Version → List ℕ
+freeDestinationTypes v = pick (isPixel v) (0 ∷ 8 ∷ 9 ∷ []) (0 ∷ 3 ∷ 4 ∷ 5 ∷ 6 ∷ [])
 
-abbrev pub freeSourceTypes : Version → ℕ
-freeSourceTypes v =
-    pick (isPixel v) (setOf (0 ∷ 1 ∷ 2 ∷ 11 ∷ 12 ∷ 13 ∷ 3 ∷ 17 ∷ [])) (setOf (0 ∷ 1 ∷ 2 ∷ 11 ∷ 12 ∷ 13 ∷ []))
-
--- "TEXKILL D 0 or 3"
-abbrev pub killedTypes : ℕ
-killedTypes = setOf (0 ∷ 3 ∷ [])
+abbrev pub freeSourceTypes : Version → List ℕ
+freeSourceTypes v = pick (isPixel v) (0 ∷ 1 ∷ 2 ∷ 11 ∷ 12 ∷ 13 ∷ 3 ∷ 17 ∷ []) (0 ∷ 1 ∷ 2 ∷ 11 ∷ 12 ∷ 13 ∷ [])
 
 -- "CALLNZ's second and IF 14, in V3 and P3 also 19"
-abbrev pub conditionTypes : Version → ℕ
-conditionTypes v = pick (isThird v) (setOf (14 ∷ 19 ∷ [])) (setOf (14 ∷ []))
+abbrev pub conditionTypes : Version → List ℕ
+conditionTypes v = pick (isThird v) (14 ∷ 19 ∷ []) (14 ∷ [])
 
 -- "type 3 or 15 (P3: 15 only)"
-abbrev pub relativeTypes : Version → ℕ
-relativeTypes V2 = setOf (3 ∷ 15 ∷ [])
-relativeTypes V3 = setOf (3 ∷ 15 ∷ [])
-relativeTypes P2 = setOf (3 ∷ 15 ∷ [])
-relativeTypes P3 = setOf (15 ∷ [])
+abbrev pub relativeTypes : Version → List ℕ
+relativeTypes V2 = 3 ∷ 15 ∷ []
+relativeTypes V3 = 3 ∷ 15 ∷ []
+relativeTypes P2 = 3 ∷ 15 ∷ []
+relativeTypes P3 = 15 ∷ []
 
 -- the predicate is "type 19"
-abbrev pub predicateTypes : ℕ
-predicateTypes = setOf (19 ∷ [])
+abbrev pub predicateTypes : List ℕ
+predicateTypes = 19 ∷ []
 
-abbrev pub typesAt : Version → ℕ → ℕ
-typesAt v place =
-    pick (eqb place freeDestination) (freeDestinationTypes v)
-    (pick (eqb place freeSource) (freeSourceTypes v)
-    (pick (eqb place killed) killedTypes
-    (pick (eqb place condition) (conditionTypes v)
-    (pick (eqb place relative) (relativeTypes v)
-    (pick (eqb place predicate) predicateTypes (2 ^ (place % 32)))))))
+abbrev pub typesOr : Types → List ℕ → List ℕ
+typesOr free all = all
+typesOr (only types) all = types
+
+-- DCL's types are said in its section
+abbrev pub typed : Version → Place → ℕ → Bool
+typed v raw type = true
+typed v usage type = true
+typed v declared type = true
+typed v (destination types) type = among type (typesOr types (freeDestinationTypes v))
+typed v (source types) type = among type (typesOr types (freeSourceTypes v))
+typed v condition type = among type (conditionTypes v)
+typed v predicate type = among type predicateTypes
+typed v relative type = among type (relativeTypes v)
 
 -- "each token: layout, then type"
 abbrev pub layoutThenType : Bool → Bool → Token
@@ -214,16 +149,17 @@ layoutThenType true true = Good
 layoutThenType true false = Bad REGISTER
 layoutThenType false typed = Bad OPERAND
 
--- "R any 32 bits"
-unfoldable pub tokenAt : Version → ℕ → ℕ → Token
-tokenAt v place token =
-    pick (eqb place raw) Good (layoutThenType (laid v place token) (holds (typesAt v place) (typeOf token)))
+unfoldable pub tokenAt : Version → Place → ℕ → Token
+tokenAt v place token = layoutThenType (laid v place token) (typed v place (typeOf token))
 
--- "One relative token then follows"
-abbrev pub bringsRelative : ℕ → ℕ → Bool
-bringsRelative place token = pick (eqb place raw) false (eqb (bit 13 token) 1)
+-- "One relative token then follows": behind a token that is good, so bit 13 is one at a free place alone
+abbrev pub bringsRelative : Place → ℕ → Bool
+bringsRelative place token = not (isRaw place) && eqb (bit 13 token) 1
+
+abbrev pub refusedOperands : Reason → ℕ → Operands
+refusedOperands reason position = Refused (refusal reason position)
 
 -- "SIZE for tokens left over"
 abbrev pub leftOver : List ℕ → Operands
 leftOver [] = Fit
-leftOver (token ∷ rest) = Refused (refusal SIZE 0)
+leftOver (token ∷ rest) = refusedOperands SIZE 0

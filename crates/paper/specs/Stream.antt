@@ -15,10 +15,6 @@ use Rattle.paper.specs.declared.Named.{Named}
 use Rattle.paper.specs.declared.Named.the-variants.{Known, Unknown}
 use Rattle.paper.specs.declared.Reason.the-variants.{Length as LENGTH, Version as VERSION}
 use Rattle.paper.specs.declared.Refusal.{Refusal}
-use Rattle.paper.specs.declared.Class.{Class}
-use Rattle.paper.specs.declared.Class.the-variants.{One, Opens, Closes}
-use Rattle.paper.specs.declared.Single.the-variants.{Comment, Plain, Break, Label, Return}
-use Rattle.paper.specs.declared.Closer.the-variants.{Else, EndIf, EndLoop, EndRep, End}
 use Rattle.paper.specs.declared.Judged.{Judged}
 use Rattle.paper.specs.declared.Judged.the-variants.{Good, Refused}
 use Rattle.paper.specs.declared.Verdict.{Verdict}
@@ -40,28 +36,9 @@ cutting (suc most) v (token ∷ rest) p =
 unfoldable pub cutFrom : Version → List ℕ → ℕ → Cut
 cutFrom v stream p = cutting (length (drop p stream)) v (drop p stream) p
 
--- "the number of instructions, comments and END not counted"
-abbrev pub counts : Class → ℕ → ℕ
-counts (One Comment) n = n
-counts (One Plain) n = suc n
-counts (One Break) n = suc n
-counts (One Label) n = suc n
-counts (One Return) n = suc n
-counts (Opens o) n = suc n
-counts (Closes Else) n = suc n
-counts (Closes EndIf) n = suc n
-counts (Closes EndLoop) n = suc n
-counts (Closes EndRep) n = suc n
-counts (Closes End) n = n
-
-unfoldable pub count : Cut → ℕ
-count (out p) = 0
-count (wrong p r) = 0
-count (then class p rest) = counts class (count rest)
-
 -- the walk of a stream, from behind its version on
 unfoldable pub walked : Version → List ℕ → Verdict
-walked v stream = walk (count (cutFrom v stream 1)) (cutFrom v stream 1) []
+walked v stream = walk 0 (cutFrom v stream 1) []
 
 -- "fewer than 2 or more than 16,384 tokens"
 abbrev pub mostTokens : ℕ

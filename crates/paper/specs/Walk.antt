@@ -2,17 +2,18 @@
 use Prim.Native.Nat.{ℕ, zero, suc}
 use mathlib.Core.Bool.{Bool, true, false}
 use mathlib.Core.List.{List, [], _∷_}
-use lib.Dec.{eqb, ltb}
+use lib.Dec.{ltb}
 use lib.ListN.{length}
 use Rattle.paper.specs.Notation.{pick}
 use Rattle.paper.specs.Numbers.{refusal}
-use Rattle.paper.specs.Blocks.{Cut, out, wrong, then, stands, loopsIn, closerOf, mostOpen}
+use Rattle.paper.specs.Blocks.{Cut, out, wrong, then, mayStand, loopsIn, mostOpen}
 use Rattle.paper.specs.declared.Opener.{Opener}
 use Rattle.paper.specs.declared.Opener.the-variants.{If, Loop, Rep}
 use Rattle.paper.specs.declared.Closer.{Closer}
 use Rattle.paper.specs.declared.Closer.the-variants.{Else, EndIf, EndLoop, EndRep, End}
 use Rattle.paper.specs.declared.Class.{Class}
 use Rattle.paper.specs.declared.Class.the-variants.{One, Opens, Closes}
+use Rattle.paper.specs.declared.Single.the-variants.{Comment, Plain, Break, Label, Return}
 use Rattle.paper.specs.declared.Reason.{Reason}
 use Rattle.paper.specs.declared.Reason.the-variants.{RunOut as RUN-OUT, Block as BLOCK, Depth as DEPTH, Tail as TAIL}
 use Rattle.paper.specs.declared.Verdict.{Verdict}
@@ -32,30 +33,61 @@ abbrev pub inLoop : List Kind → Bool
 inLoop [] = false
 inLoop (k ∷ ks) = loops k (inLoop ks)
 
-abbrev pub closerNumber : Closer → ℕ
-closerNumber Else = 0
-closerNumber EndIf = 1
-closerNumber EndLoop = 2
-closerNumber EndRep = 3
-closerNumber End = 4
+-- a closer, by its name
+abbrev pub isElse : Closer → Bool
+isElse Else = true
+isElse EndIf = false
+isElse EndLoop = false
+isElse EndRep = false
+isElse End = false
 
-abbrev pub closerAt : Kind → Closer
-closerAt (opened o) = closerOf o
-closerAt pastElse = EndIf
+abbrev pub isEndIf : Closer → Bool
+isEndIf Else = false
+isEndIf EndIf = true
+isEndIf EndLoop = false
+isEndIf EndRep = false
+isEndIf End = false
+
+abbrev pub isEndLoop : Closer → Bool
+isEndLoop Else = false
+isEndLoop EndIf = false
+isEndLoop EndLoop = true
+isEndLoop EndRep = false
+isEndLoop End = false
+
+abbrev pub isEndRep : Closer → Bool
+isEndRep Else = false
+isEndRep EndIf = false
+isEndRep EndLoop = false
+isEndRep EndRep = true
+isEndRep End = false
+
+abbrev pub isEnd : Closer → Bool
+isEnd Else = false
+isEnd EndIf = false
+isEnd EndLoop = false
+isEnd EndRep = false
+isEnd End = true
+
+-- the closer that is a block's own
+abbrev pub closesOpener : Closer → Opener → Bool
+closesOpener c If = isEndIf c
+closesOpener c Loop = isEndLoop c
+closesOpener c Rep = isEndRep c
 
 abbrev pub closes : Closer → Kind → Bool
-closes c k = eqb (closerNumber c) (closerNumber (closerAt k))
+closes c (opened o) = closesOpener c o
+closes c pastElse = isEndIf c
 
 -- an ELSE, at an IF that has none yet
+abbrev pub elsesOpener : Closer → Opener → Bool
+elsesOpener c If = isElse c
+elsesOpener c Loop = false
+elsesOpener c Rep = false
+
 abbrev pub elses : Closer → Kind → Bool
-elses Else (opened If) = true
-elses Else (opened Loop) = false
-elses Else (opened Rep) = false
-elses Else pastElse = false
-elses EndIf k = false
-elses EndLoop k = false
-elses EndRep k = false
-elses End k = false
+elses c (opened o) = elsesOpener c o
+elses c pastElse = false
 
 -- what an instruction does to the open blocks: the walk goes on, is refused, or is at its end
 pub data Next : Type 0 where
@@ -64,15 +96,29 @@ pub data Next : Type 0 where
   finish : Next
 
 abbrev pub closeAt : Closer → List Kind → Next
-closeAt c [] = pick (eqb (closerNumber c) (closerNumber End)) finish (bad BLOCK)
+closeAt c [] = pick (isEnd c) finish (bad BLOCK)
 closeAt c (k ∷ ks) = pick (elses c k) (go (pastElse ∷ ks)) (pick (closes c k) (go ks) (bad BLOCK))
 
 abbrev pub step : List Kind → Class → Next
-step ks (One s) = pick (stands (length ks) (inLoop ks) s) (go ks) (bad BLOCK)
+step ks (One s) = pick (mayStand (length ks) (inLoop ks) s) (go ks) (bad BLOCK)
 step ks (Opens o) = pick (ltb (length ks) mostOpen) (go (opened o ∷ ks)) (bad DEPTH)
 step ks (Closes c) = closeAt c ks
 
--- "TAIL: tokens after END"
+-- "the number of instructions, comments and END not counted"
+abbrev pub counts : Class → ℕ → ℕ
+counts (One Comment) n = n
+counts (One Plain) n = suc n
+counts (One Break) n = suc n
+counts (One Label) n = suc n
+counts (One Return) n = suc n
+counts (Opens o) n = suc n
+counts (Closes Else) n = suc n
+counts (Closes EndIf) n = suc n
+counts (Closes EndLoop) n = suc n
+counts (Closes EndRep) n = suc n
+counts (Closes End) n = n
+
+-- "tokens after END" are TAIL, at the "first of them"
 abbrev pub atEnd : ℕ → Cut → Verdict
 atEnd count (out p) = Accepted count
 atEnd count (wrong p r) = Refused (refusal TAIL p)
@@ -83,8 +129,8 @@ onNext (go ks) count p rest walk = walk ks
 onNext (bad reason) count p rest walk = Refused (refusal reason p)
 onNext finish count p rest walk = atEnd count rest
 
--- the verdict of the walk, where a yes gives this count
+-- the verdict of the walk behind so many instructions, with these blocks open
 unfoldable pub walk : ℕ → Cut → List Kind → Verdict
 walk count (out p) ks = Refused (refusal RUN-OUT p)
 walk count (wrong p r) ks = Refused r
-walk count (then c p rest) ks = onNext (step ks c) count p rest (λ next. walk count rest next)
+walk count (then c p rest) ks = onNext (step ks c) count p rest (λ next. walk (counts c count) rest next)

@@ -6,8 +6,8 @@ use Prim.Native.Nat.{ℕ, suc, _+_, _≤_, _<_}
 use native.Mathlib.Omega.{arith}
 use lib.ListN.{length, drop, length-drop}
 use Rattle.paper.specs.Notation.{pick}
-use Rattle.paper.specs.OperandTokens.{relative, tokenAt, typeOf, bringsRelative, leftOver}
-use Rattle.paper.specs.Dcl.{declaration, declaredAt, usageLaid, onDeclared, refusedAs}
+use Rattle.paper.specs.OperandTokens.{tokenAt, typeOf, bringsRelative, leftOver, refusedOperands}
+use Rattle.paper.specs.Dcl.{declaration, declaredAt, usageLaid, onDeclared}
 use Rattle.paper.specs.Instruction.{onToken, relativeToken, operand, onTaken, operands, onOperands}
 use Rattle.paper.specs.declared.Version.{Version}
 use Rattle.paper.specs.declared.Reason.the-variants.{Operand as OPERAND}
@@ -20,6 +20,7 @@ use Rattle.paper.specs.declared.Operands.{Operands}
 use Rattle.paper.specs.declared.Operands.the-variants.{Fit, Refused as Unfit}
 use Rattle.paper.specs.declared.Class.{Class}
 use Rattle.paper.specs.declared.Judged.the-variants.{Refused as Unlawful}
+use Rattle.paper.specs.Places.{Place, relative}
 use Rattle.instruction_token.specs.declared.Head.{Head}
 use Rattle.instruction_token.specs.declared.Head.the-variants.{Refused as Broken, End, Comment, Declaration, Operation}
 use Rattle.instruction.specs.Claimed.{judgedBy}
@@ -35,7 +36,7 @@ at-operands r s e = let same : r ≡ s = cc in ap (λ x. x .position) same
 at-instruction : (r s : Refusal) → Unlawful r ≡ Unlawful s → r .position ≡ s .position
 at-instruction r s e = let same : r ≡ s = cc in ap (λ x. x .position) same
 
-module _ (v : Version) (place offset : ℕ) (r : Refusal) (some : 1 ≤ offset) where
+module _ (v : Version) (place : Place) (offset : ℕ) (r : Refusal) (some : 1 ≤ offset) where
   in-relative : (second : Token) (n : ℕ) → onToken second (offset + 1) (Took 2) ≡ Refused r → r .position < offset + suc (suc n)
   in-relative Good n e = let z : _≡_ {A = ℕ} 0 1 = cc in absurd (omega arith)
   in-relative (Bad reason) n e = omega (arith, at-operand _ r e)
@@ -60,7 +61,7 @@ module _ (v : Version) (r : Refusal) where
   in-left offset [] some e = let z : _≡_ {A = ℕ} 0 1 = cc in absurd (omega arith)
   in-left offset (token ∷ rest) some e = omega (arith, at-operands _ r e)
 
-  in-first : (place : ℕ) (places : List ℕ) (offset : ℕ) (tokens : List ℕ) (taken : Taken) → 1 ≤ offset →
+  in-first : (place : Place) (places : List Place) (offset : ℕ) (tokens : List ℕ) (taken : Taken) → 1 ≤ offset →
       ((n : ℕ) → operands v places (offset + n) (drop n tokens) ≡ Unfit r → r .position < offset + n + length (drop n tokens)) →
       operand v place offset tokens ≡ taken → onTaken taken (λ n. operands v places (offset + n) (drop n tokens)) ≡ Unfit r →
       r .position < offset + length tokens
@@ -71,19 +72,19 @@ module _ (v : Version) (r : Refusal) where
       let same : s ≡ r = cc in
       in-operand v place offset r some tokens (rw same at t)
 
-  in-operands : (places : List ℕ) (offset : ℕ) (tokens : List ℕ) → 1 ≤ offset → operands v places offset tokens ≡ Unfit r → r .position < offset + length tokens
+  in-operands : (places : List Place) (offset : ℕ) (tokens : List ℕ) → 1 ≤ offset → operands v places offset tokens ≡ Unfit r → r .position < offset + length tokens
   unfolding operands
   in-operands [] offset tokens some e = in-left offset tokens some e
   in-operands (place ∷ places) offset tokens some e =
       in-first place places offset tokens (operand v place offset tokens) some
       (λ n f. in-operands places (offset + n) (drop n tokens) (omega arith) f) refl e
 
-  in-usage : (laid : Bool) (rest : List ℕ) → pick laid (leftOver rest) (refusedAs OPERAND 1) ≡ Unfit r → r .position < 2 + length rest
+  in-usage : (laid : Bool) (rest : List ℕ) → pick laid (leftOver rest) (refusedOperands OPERAND 1) ≡ Unfit r → r .position < 2 + length rest
   in-usage true rest e = in-left 2 rest (omega arith) e
   in-usage false rest e = omega (arith, at-operands _ r e)
 
   in-declared : (destination : Token) (laid : Bool) (rest : List ℕ) →
-      onDeclared destination (pick laid (leftOver rest) (refusedAs OPERAND 1)) ≡ Unfit r → r .position ≤ suc (suc (length rest))
+      onDeclared destination (pick laid (leftOver rest) (refusedOperands OPERAND 1)) ≡ Unfit r → r .position ≤ suc (suc (length rest))
   in-declared Good laid rest e = omega (arith, in-usage laid rest e)
   in-declared (Bad reason) laid rest e = omega (arith, at-operands _ r e)
 

@@ -7,15 +7,16 @@ use native.Mathlib.Omega.{arith}
 use lib.Dec.{eqb}
 use borrow.Author.Tests.{eqb-true}
 use Rattle.paper.specs.Notation.{pick, bit, bits}
-use Rattle.paper.specs.OperandTokens.{typeOf, raw, declared, bringsRelative, bothLaid, relativeLaid, destinationLaid, leftOver}
+use Rattle.paper.specs.OperandTokens.{typeOf, bringsRelative, bothLaid, relativeLaid, laid, leftOver, refusedOperands}
 use Rattle.paper.specs.Versions.{isPixel}
-use Rattle.paper.specs.Dcl.{declaration, declaredAt, faceLaid, isDeclared, usageLaid, onDeclared, refusedAs}
+use Rattle.paper.specs.Dcl.{declaration, isDeclared, declaredAt, faceLaid, usageLaid, onDeclared}
 use Rattle.paper.specs.declared.Version.{Version}
 use Rattle.paper.specs.declared.Reason.the-variants.{Operand as OPERAND}
 use Rattle.paper.specs.declared.Token.{Token}
 use Rattle.paper.specs.declared.Token.the-variants.{Good, Bad}
 use Rattle.paper.specs.declared.Operands.the-variants.{Fit}
 use Rattle.paper.proofs.Below.{both-left, both-right}
+use Rattle.paper.specs.Places.{usage as U, declared}
 use Rattle.records.specs.Record.{widthAt, declaredPlaces}
 use Rattle.records.proofs.Passed.{Passed, AllPassed, none, step, laid-and-typed}
 
@@ -24,12 +25,12 @@ pub or-false : (a : Bool) → a || false ≡ true → a ≡ true
 or-false true h = refl
 or-false false h = h
 
-pub declared-laid : (v : Version) (d : ℕ) → declaredAt v d ≡ Good → destinationLaid v declared d ≡ true
+pub declared-laid : (v : Version) (d : ℕ) → declaredAt v d ≡ Good → laid v declared d ≡ true
 declared-laid v d g =
-    both-left (destinationLaid v declared d) (faceLaid v d)
-    (laid-and-typed (destinationLaid v declared d && faceLaid v d) (isDeclared v (typeOf d)) g)
+    both-left (laid v declared d) (faceLaid v d)
+    (laid-and-typed (laid v declared d && faceLaid v d) (isDeclared v (typeOf d)) g)
 
-pub declared-plain : (v : Version) (d : ℕ) → destinationLaid v declared d ≡ true → bit 13 d ≡ 0
+pub declared-plain : (v : Version) (d : ℕ) → laid v declared d ≡ true → bit 13 d ≡ 0
 declared-plain v d l =
     let pixel = both-right (bothLaid d) _ l in
     let zeros = both-right (eqb (bits 22 21 d) 0 || isPixel v) _ pixel in
@@ -47,11 +48,11 @@ module _ (v : Version) (u d : ℕ) (rest : List ℕ) where
   left-good [] e = refl
   left-good (t ∷ ts) e = let z : _≡_ {A = ℕ} 0 1 = cc in absurd (omega arith)
 
-  usage-good : (laid : Bool) → declaredAt v d ≡ Good → usageLaid v (typeOf d) u ≡ laid → pick laid (leftOver rest) (refusedAs OPERAND 1) ≡ Fit → Declared v u d rest
+  usage-good : (is : Bool) → declaredAt v d ≡ Good → usageLaid v (typeOf d) u ≡ is → pick is (leftOver rest) (refusedOperands OPERAND 1) ≡ Fit → Declared v u d rest
   usage-good true g l e = record { destination = g; usage = l; no-more = left-good rest e }
   usage-good false g l e = let z : _≡_ {A = ℕ} 0 1 = cc in absurd (omega arith)
 
-  token-good : (t : Token) → declaredAt v d ≡ t → onDeclared t (pick (usageLaid v (typeOf d) u) (leftOver rest) (refusedAs OPERAND 1)) ≡ Fit → Declared v u d rest
+  token-good : (t : Token) → declaredAt v d ≡ t → onDeclared t (pick (usageLaid v (typeOf d) u) (leftOver rest) (refusedOperands OPERAND 1)) ≡ Fit → Declared v u d rest
   token-good Good g e = usage-good (usageLaid v (typeOf d) u) g refl e
   token-good (Bad reason) g e = let z : _≡_ {A = ℕ} 0 1 = cc in absurd (omega arith)
 
@@ -63,19 +64,19 @@ never : false ≡ true → ⊥
 never e = let z : _≡_ {A = ℕ} 0 1 = cc in omega arith
 
 -- U and the destination of a good declaration
-module _ (v : Version) (u d : ℕ) (l : destinationLaid v declared d ≡ true) where
+module _ (v : Version) (u d : ℕ) (l : laid v declared d ≡ true) where
   plain : bringsRelative declared d ≡ false
   plain = rw (declared-plain v d l)
 
-  usage-passed : Passed v raw (u ∷ (d ∷ [])) 1
+  usage-passed : Passed v U (u ∷ (d ∷ [])) 1
   unfolding widthAt
   usage-passed =
-      record { width = refl; there = omega arith; first-laid = λ t. absurd (never (sym t)); second-laid = λ t. absurd (never t) }
+      record { width = refl; there = omega arith; first-laid = refl; second-laid = λ t. absurd (never t) }
 
   destination-passed : Passed v declared (d ∷ []) 1
   unfolding widthAt
   destination-passed =
-      record { width = rw plain; there = omega arith; first-laid = λ _. l; second-laid = λ t. absurd (never (sym plain ∙ t)) }
+      record { width = rw plain; there = omega arith; first-laid = l; second-laid = λ t. absurd (never (sym plain ∙ t)) }
 
   both-passed : AllPassed v declaredPlaces (u ∷ (d ∷ []))
   both-passed = step usage-passed (step destination-passed none)

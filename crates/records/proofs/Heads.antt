@@ -1,20 +1,23 @@
 -- What is known of an instruction token whose head is no refusal.
-use mathlib.Core.Path.{_≡_, refl}
-use mathlib.Core.Bool.{Bool, true, false}
+use mathlib.Core.Path.{_≡_, refl, sym, ap, _∙_}
+use mathlib.Core.Bool.{Bool, true, false, _&&_, _||_}
 use mathlib.Core.List.{List, [], _∷_}
 use Prim.Native.Nat.{ℕ, suc, _≤_}
 use native.Mathlib.Omega.{arith}
 use lib.Dec.{eqb}
 use lib.ListN.{length}
 use borrow.Author.Tests.{eqb-true}
-use Rattle.paper.specs.Notation.{pick}
-use Rattle.paper.specs.OpcodeTable.{Letter, Entry, absent, listed, entryOf, DCL}
-use Rattle.paper.specs.InstructionToken.{opcodeOf, statedSize, isPredicated, bitsLaid, commentOpcode, commentLength, commentLaid, endOpcode, endToken}
-use Rattle.paper.specs.OperandTokens.{predicate, placesFrom, withPredicate}
-use Rattle.paper.specs.Instruction.{Head, broken, end, comment, dcl, operation, places, headOf, head}
+use Rattle.paper.specs.Notation.{pick, bit, bits}
+use Rattle.paper.specs.OpcodeTable.{DCL, rows}
+use Rattle.paper.specs.InstructionToken.{opcodeOf, controlsOf, controlsLaid, hasDestination, statedSize, isPredicated, bitsLaid, commentOpcode, commentLength, commentLaid, endOpcode, endToken, withPredicate}
+use Rattle.paper.specs.Instruction.{Head, broken, end, comment, dcl, operation, headOf, head}
+use Rattle.paper.specs.Versions.{isThird}
 use Rattle.paper.specs.declared.Version.{Version}
+use Rattle.paper.specs.declared.Version.the-variants.{V2, V3, P2, P3}
 use Rattle.paper.specs.declared.Reason.the-variants.{Bits as BITS}
-use Rattle.opcodes.proofs.Laws.{few, length-places}
+use Rattle.paper.specs.Places.{Entry, absent, listed, entryOf, typedPlaces, Place, isPredicate}
+use Rattle.opcodes.proofs.Laws.{few}
+use Rattle.records.specs.Record.{declaredPlaces}
 use Rattle.records.specs.Encoded.{ordered}
 
 -- a comment, END, or an instruction of the table, by what its head says
@@ -24,21 +27,22 @@ pub record IsComment (token n : ℕ) : Type 0 where
   pub stated : commentLength token ≡ n
 
 pub record IsListed (v : Version) (token : ℕ) : Type 0 where
-  pub letters : List Letter
-  pub entry : entryOf v (opcodeOf token) ≡ listed letters
-  pub laid : bitsLaid v token letters ≡ true
+  pub places : List Place
+  pub entry : entryOf v (opcodeOf token) ≡ listed places
+  pub laid : bitsLaid v token places ≡ true
   pub no-comment : eqb (opcodeOf token) commentOpcode ≡ false
   pub no-end : eqb (opcodeOf token) endOpcode ≡ false
 
 pub record IsDcl (v : Version) (token size : ℕ) : Type 0 where
   pub found : IsListed v token
-  pub opcode : opcodeOf token ≡ DCL
+  pub row : found .places ≡ declaredPlaces
+  pub unpredicated : isPredicated token ≡ false
   pub stated : statedSize token ≡ size
 
-pub record IsOperation (v : Version) (token : ℕ) (row : List ℕ) (size : ℕ) : Type 0 where
+pub record IsOperation (v : Version) (token : ℕ) (row : List Place) (size : ℕ) : Type 0 where
   pub found : IsListed v token
   pub no-dcl : eqb (opcodeOf token) DCL ≡ false
-  pub row-of : places token (found .letters) ≡ row
+  pub row-of : withPredicate (isPredicated token) (found .places) ≡ row
   pub stated : statedSize token ≡ size
 
 -- what a head says of its token
@@ -49,31 +53,62 @@ Says v token (comment n) = IsComment token n
 Says v token (dcl size) = IsDcl v token size
 Says v token (operation row size) = IsOperation v token row size
 
+-- DCL's row in the table
+declared-row : (v : Version) → entryOf v DCL ≡ listed declaredPlaces
+unfolding entryOf rows typedPlaces
+declared-row V2 = refl
+declared-row V3 = refl
+declared-row P2 = refl
+declared-row P3 = refl
+
+zero-not-one : (n : ℕ) → n ≡ 0 → eqb n 1 ≡ false
+zero-not-one n e = rw e
+
+only-zero : (zeros controls unpredicated third has : Bool) →
+    zeros && (controls && (unpredicated || (third && (has && false)))) ≡ true → unpredicated ≡ true
+only-zero true true true third has e = refl
+only-zero true true false true true e = e
+only-zero true true false true false e = e
+only-zero true true false false has e = e
+only-zero true false unpredicated third has e = let z : _≡_ {A = ℕ} 0 1 = cc in absurd (omega arith)
+only-zero false controls unpredicated third has e = let z : _≡_ {A = ℕ} 0 1 = cc in absurd (omega arith)
+
 module _ (v : Version) (token : ℕ) where
+  dcl-row : (places : List Place) → entryOf v (opcodeOf token) ≡ listed places → opcodeOf token ≡ DCL → places ≡ declaredPlaces
+  dcl-row places e d =
+      let same : listed places ≡ listed declaredPlaces = sym e ∙ ap (entryOf v) d ∙ declared-row v in
+      cc
+
+  dcl-unpredicated : (places : List Place) → bitsLaid v token places ≡ true → opcodeOf token ≡ DCL → isPredicated token ≡ false
+  dcl-unpredicated places laid d =
+      let none : bit 28 token ≡ 0 = eqb-true _ _ (only-zero (eqb (bits 31 29 token) 0) (controlsLaid DCL (controlsOf token)) (eqb (bit 28 token) 0) (isThird v) (hasDestination places) (rw d at laid)) in
+      zero-not-one (bit 28 token) none
+
   module _ (no-comment : eqb (opcodeOf token) commentOpcode ≡ false) (no-end : eqb (opcodeOf token) endOpcode ≡ false) where
-    says-listed : (letters : List Letter) → entryOf v (opcodeOf token) ≡ listed letters → (laid isDcl : Bool) →
-        bitsLaid v token letters ≡ laid → eqb (opcodeOf token) DCL ≡ isDcl →
-        Says v token (pick laid (pick isDcl (dcl (statedSize token)) (operation (places token letters) (statedSize token))) (broken BITS))
+    says-listed : (places : List Place) → entryOf v (opcodeOf token) ≡ listed places → (laid isDcl : Bool) →
+        bitsLaid v token places ≡ laid → eqb (opcodeOf token) DCL ≡ isDcl →
+        Says v token (pick laid (pick isDcl (dcl (statedSize token)) (operation (withPredicate (isPredicated token) places) (statedSize token))) (broken BITS))
     unfolding Says
-    says-listed letters e true true b d =
+    says-listed places e true true b d =
         record {
-          found = record { letters = letters; entry = e; laid = b; no-comment = no-comment; no-end = no-end };
-          opcode = eqb-true _ _ d;
+          found = record { places = places; entry = e; laid = b; no-comment = no-comment; no-end = no-end };
+          row = dcl-row places e (eqb-true _ _ d);
+          unpredicated = dcl-unpredicated places b (eqb-true _ _ d);
           stated = refl;
         }
-    says-listed letters e true false b d =
+    says-listed places e true false b d =
         record {
-          found = record { letters = letters; entry = e; laid = b; no-comment = no-comment; no-end = no-end };
+          found = record { places = places; entry = e; laid = b; no-comment = no-comment; no-end = no-end };
           no-dcl = d;
           row-of = refl;
           stated = refl;
         }
-    says-listed letters e false isDcl b d = tt
+    says-listed places e false isDcl b d = tt
 
     says-entry : (entry : Entry) → entryOf v (opcodeOf token) ≡ entry → Says v token (headOf v token entry)
     unfolding Says
     says-entry absent e = tt
-    says-entry (listed letters) e = says-listed letters e (bitsLaid v token letters) (eqb (opcodeOf token) DCL) refl refl
+    says-entry (listed places) e = says-listed places e (bitsLaid v token places) (eqb (opcodeOf token) DCL) refl refl
 
   says-cases : (isComment commented isEnd ended : Bool) → eqb (opcodeOf token) commentOpcode ≡ isComment → commentLaid token ≡ commented →
       eqb (opcodeOf token) endOpcode ≡ isEnd → eqb token endToken ≡ ended →
@@ -103,7 +138,7 @@ module _ (v : Version) (token : ℕ) where
   unfolding Says
   is-dcl size h = rw h at says
 
-  pub is-operation : (row : List ℕ) (size : ℕ) → head v token ≡ operation row size → IsOperation v token row size
+  pub is-operation : (row : List Place) (size : ℕ) → head v token ≡ operation row size → IsOperation v token row size
   unfolding Says
   is-operation row size h = rw h at says
 
@@ -112,18 +147,18 @@ at-most : (b : Bool) (n m : ℕ) → n ≤ m → pick b n (suc n) ≤ suc m
 at-most true n m h = omega arith
 at-most false n m h = omega arith
 
-ordered-predicated : (predicated : Bool) (row : List ℕ) → ordered (withPredicate predicated row) ≤ length row
+ordered-predicated : (predicated : Bool) (row : List Place) → ordered (withPredicate predicated row) ≤ length row
 unfolding ordered
 ordered-predicated true [] = omega arith
 ordered-predicated false [] = omega arith
-ordered-predicated predicated (place ∷ row) = at-most (eqb place predicate) _ _ (ordered-predicated predicated row)
+ordered-predicated predicated (place ∷ row) = at-most (isPredicate place) _ _ (ordered-predicated predicated row)
 
-pub operation-few : (v : Version) (token : ℕ) (row : List ℕ) (size : ℕ) → head v token ≡ operation row size → ordered row ≤ 5
+pub operation-few : (v : Version) (token : ℕ) (row : List Place) (size : ℕ) → head v token ≡ operation row size → ordered row ≤ 5
 operation-few v token row size h =
     let o = is-operation v token row size h in
     let l = o .found in
     rw (o .row-of) at
-    (few-in (ordered-predicated (isPredicated token) (placesFrom (opcodeOf token) 0 (l .letters))) (length-places (opcodeOf token) 0 (l .letters)) (few v (opcodeOf token) (l .letters) (l .entry)))
+    (few-in (ordered-predicated (isPredicated token) (l .places)) (few v (opcodeOf token) (l .places) (l .entry)))
   where
-    few-in : {n m k : ℕ} → n ≤ m → m ≡ k → k ≤ 5 → n ≤ 5
-    few-in a b c = omega arith
+    few-in : {n m : ℕ} → n ≤ m → m ≤ 5 → n ≤ 5
+    few-in a b = omega arith

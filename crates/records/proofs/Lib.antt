@@ -1,4 +1,5 @@
 -- What the proofs of the functions share, and the laws of records.
+pub mod PlaceKinds
 pub mod Filled
 pub mod Heads
 pub mod Passed

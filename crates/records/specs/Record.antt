@@ -2,13 +2,13 @@
 -- relative token's. Unused places are zero, so one instruction has one record. A comment's record holds its length; .. END has a record too."
 use Prim.Native.Nat.{ℕ, zero, suc}
 use mathlib.Core.List.{List, [], _∷_, _++_}
-use lib.Dec.{eqb}
 use lib.ListN.{take, drop, getD}
 use Rattle.paper.specs.Notation.{bits, bit, pick}
 use Rattle.paper.specs.InstructionToken.{opcodeOf, controlsOf, commentOpcode, commentLength, endOpcode}
-use Rattle.paper.specs.OperandTokens.{numberField, typeOf, modifierOf, raw, declared, predicate, isDestination, bringsRelative}
+use Rattle.paper.specs.OperandTokens.{numberField, typeOf, modifierOf, bringsRelative}
 use Rattle.paper.specs.Instruction.{Head, broken, end, comment, dcl, operation, head}
 use Rattle.paper.specs.declared.Version.{Version}
+use Rattle.paper.specs.Places.{Place, isRaw, isDestination, isPredicate, usage, declared}
 use Rattle.records.specs.declared.Operand.{Operand}
 use Rattle.records.specs.declared.Record.{Record}
 
@@ -77,31 +77,31 @@ sourceOperand token relative =
     }
 
 -- the operand of a place, from its token and its relative token
-unfoldable pub operandOf : ℕ → ℕ → ℕ → Operand
+unfoldable pub operandOf : Place → ℕ → ℕ → Operand
 operandOf place token relative =
-    pick (eqb place raw) (rawOperand token)
+    pick (isRaw place) (rawOperand token)
     (pick (isDestination place) (destinationOperand token relative) (sourceOperand token relative))
 
 -- how many of the tokens that are left an operand takes, and the operand
-unfoldable pub widthAt : ℕ → List ℕ → ℕ
+unfoldable pub widthAt : Place → List ℕ → ℕ
 widthAt place tokens = pick (bringsRelative place (getD tokens 0 0)) 2 1
 
-unfoldable pub operandAt : ℕ → List ℕ → Operand
+unfoldable pub operandAt : Place → List ℕ → Operand
 operandAt place tokens =
     operandOf place (getD tokens 0 0) (pick (bringsRelative place (getD tokens 0 0)) (getD tokens 1 0) 0)
 
 -- the operands of a row of places in token order, but for the predicate's
-unfoldable pub inOrder : List ℕ → List ℕ → List Operand
+unfoldable pub inOrder : List Place → List ℕ → List Operand
 inOrder [] tokens = []
 inOrder (place ∷ places) tokens =
-    pick (eqb place predicate) (inOrder places (drop (widthAt place tokens) tokens))
+    pick (isPredicate place) (inOrder places (drop (widthAt place tokens) tokens))
     (operandAt place tokens ∷ inOrder places (drop (widthAt place tokens) tokens))
 
 -- the predicate's operand, wherever it stands in the row; another where the row has none
-unfoldable pub predicateOr : Operand → List ℕ → List ℕ → Operand
+unfoldable pub predicateOr : Operand → List Place → List ℕ → Operand
 predicateOr other [] tokens = other
 predicateOr other (place ∷ places) tokens =
-    predicateOr (pick (eqb place predicate) (operandAt place tokens) other) places (drop (widthAt place tokens) tokens)
+    predicateOr (pick (isPredicate place) (operandAt place tokens) other) places (drop (widthAt place tokens) tokens)
 
 -- so many places, the unused ones zero
 abbrev pub padded : ℕ → List Operand → List Operand
@@ -110,12 +110,12 @@ padded (suc n) [] = noOperand ∷ padded n []
 padded (suc n) (operand ∷ operands) = operand ∷ padded n operands
 
 -- "a fixed array of operands": five in token order, and the predicate's behind them
-unfoldable pub arrayOf : List ℕ → List ℕ → List Operand
+unfoldable pub arrayOf : List Place → List ℕ → List Operand
 arrayOf places tokens = padded 5 (inOrder places tokens) ++ (predicateOr noOperand places tokens ∷ [])
 
--- DCL: U, then its destination
-abbrev pub declaredPlaces : List ℕ
-declaredPlaces = raw ∷ declared ∷ []
+-- DCL's row of the table: U, then its destination
+abbrev pub declaredPlaces : List Place
+declaredPlaces = usage ∷ declared ∷ []
 
 -- a record without operands
 abbrev pub emptyRecord : ℕ → ℕ → Record

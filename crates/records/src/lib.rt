@@ -1,22 +1,25 @@
 // Records: document 01, "Records". The record of one instruction, read from its tokens.
 ghost use mathlib.Core.Path.{_≡_};
 ghost use Prim.Native.Nat.{_+_, _≤_};
-ghost use lib.Dec.{eqb};
 ghost use lib.ListN.{length, drop};
 ghost use Rattle.paper.specs.Notation.{pick};
-ghost use Rattle.paper.specs.OperandTokens.{predicate};
-ghost use Rattle.opcodes.specs.Places.{decoded};
+ghost use Rattle.paper.specs.Places.{isPredicate};
+ghost use Rattle.opcodes.specs.Places.{placeBy, decoded};
 ghost use Rattle.records.specs.Record.{rawOperand, destinationOperand, sourceOperand, operandOf, widthAt, operandAt, arrayOf, emptyRecord, noRecord, instructionRecord};
 ghost use Rattle.records.specs.Encoded.{placesOf, recordBy, Readable};
 use instruction_token::Head;
 
-// Places of OperandTokens.antt, by their numbers there.
+// Places, by their numbers in specs/Places.antt of the opcodes.
 const RAW: u64 = 1;
+
+const USAGE: u64 = 2;
 
 const PREDICATE: u64 = 93;
 
-// DCL's places, a digit of base 128 for each: raw, and the destination that is declared.
-const DECLARED_PLACES: u64 = 1 + 61 * 128;
+// DCL's row, a digit of base 128 for each place: U, and the destination.
+const DECLARED: u64 = 61;
+
+const DECLARED_PLACES: u64 = USAGE + 128 * DECLARED;
 
 // An operand: the fields of its token and of its relative token, or the 32 bits of a raw one.
 #[repr(C)]
@@ -100,9 +103,9 @@ fn source_operand(token: u32, relative: u32) -> Operand
 
 // The operand of a place, from its token and its relative token, 0 where it has none.
 fn operand_of(place: u64, token: u32, relative: u32) -> Operand
-    ensures { λ r. ⌜ r ≡ operandOf place token relative ⌝ }
+    ensures { λ r. ⌜ r ≡ operandOf (placeBy place) token relative ⌝ }
 {
-    if place == RAW {
+    if (place == RAW) | (place == USAGE) {
         return raw_operand(token);
     }
     if place / 32 == 1 {
@@ -119,8 +122,8 @@ struct Step {
 
 // The operand whose token is the one at `at` of those behind the instruction token.
 fn read_operand(place: u64, behind: &[u32], at: usize) -> Step
-    requires { ⌜ at + widthAt place (drop at (now behind)) ≤ length (now behind) ⌝ }
-    ensures { λ r. ⌜ (r .operand ≡ operandAt place (drop at (now (behind .entry)))) × (r .next ≡ at + widthAt place (drop at (now (behind .entry)))) ⌝ }
+    requires { ⌜ at + widthAt (placeBy place) (drop at (now behind)) ≤ length (now behind) ⌝ }
+    ensures { λ r. ⌜ (r .operand ≡ operandAt (placeBy place) (drop at (now (behind .entry)))) × (r .next ≡ at + widthAt (placeBy place) (drop at (now (behind .entry)))) ⌝ }
 {
     let token = behind[at];
     if tokens::brings_relative(place, token) {
@@ -139,14 +142,14 @@ fn read_operand(place: u64, behind: &[u32], at: usize) -> Step
 
 // Where the array holds the operand of a place, if it holds so many in token order.
 fn slot_of(place: u64, held: usize) -> usize
-    ensures { λ r. ⌜ r ≡ pick (eqb place predicate) 5 held ⌝ }
+    ensures { λ r. ⌜ r ≡ pick (isPredicate (placeBy place)) 5 held ⌝ }
 {
     if place == PREDICATE { 5 } else { held }
 }
 
 fn count_with(place: u64, held: usize) -> usize
     requires { ⌜ held ≤ 5 ⌝ }
-    ensures { λ r. ⌜ r ≡ pick (eqb place predicate) held (held + 1) ⌝ }
+    ensures { λ r. ⌜ r ≡ pick (isPredicate (placeBy place)) held (held + 1) ⌝ }
 {
     if place == PREDICATE { held } else { held + 1 }
 }

@@ -10,8 +10,7 @@ use Rattle.reader.specs.declared.Reading.{Reading}
 use Rattle.edit.specs.declared.Edited.{Edited}
 use Rattle.edit.specs.declared.Edited.the-variants.{Joined, Accepted as Edited-in-full, Refused as Unedited}
 use Rattle.santubeli.specs.declared.EditAnswer.{EditAnswer}
-use Rattle.writing.specs.declared.Written.{Written}
-use Rattle.writing.specs.declared.Written.the-variants.{Wrote, Refused as Unwritten}
+use Rattle.writing.specs.Writing.{ToldWriting}
 use Rattle.santubeli.specs.declared.WriteAnswer.{WriteAnswer}
 use Rattle.santubeli.specs.declared.Answer.{Answer}
 use Rattle.santubeli.specs.declared.ReadAnswer.{ReadAnswer}
@@ -35,7 +34,6 @@ editAnswerOf (Joined n) = record { number = 0; position = 0; joined = 1; length 
 editAnswerOf (Edited-in-full n) = record { number = 0; position = 0; joined = 0; length = n }
 editAnswerOf (Unedited r) = record { number = numberOf (r .reason); position = r .position; joined = 0; length = 0 }
 
--- a writing: the next place of a yes; a refusal has next place 0
-abbrev pub writeAnswerOf : Written → WriteAnswer
-writeAnswerOf (Wrote next) = record { number = 0; position = 0; next = next }
-writeAnswerOf (Unwritten r) = record { number = numberOf (r .reason); position = r .position; next = 0 }
+-- a writing: the struct has the number, the position and the next place that are told of it
+abbrev pub writeTold : WriteAnswer → ToldWriting
+writeTold answer = record { number = answer .number; position = answer .position; next = answer .next }

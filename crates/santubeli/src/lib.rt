@@ -5,8 +5,8 @@ ghost use lib.ListN.{length};
 ghost use Rattle.paper.specs.Stream.{verdict};
 ghost use Rattle.bytes.specs.Bytes.{bytesVerdict};
 ghost use Rattle.reader.specs.Reading.{reading};
-ghost use Rattle.santubeli.specs.Entries.{answerOf, readAnswerOf, editAnswerOf, writeAnswerOf};
-ghost use Rattle.writing.specs.Writing.{writing, bufferAfter as writtenBuffer};
+ghost use Rattle.santubeli.specs.Entries.{answerOf, readAnswerOf, editAnswerOf, writeTold};
+ghost use Rattle.writing.specs.Writing.{toldWriting, Writes};
 ghost use Rattle.edit.specs.Edit.{editedIn, bufferAfter};
 use edit::Edited;
 use paper::Verdict;
@@ -152,7 +152,7 @@ pub struct WriteAnswer {
 }
 
 fn write_answer_of(written: Written) -> WriteAnswer
-    ensures { λ r. ⌜ r ≡ writeAnswerOf written ⌝ }
+    ensures { λ r. ⌜ writeTold r ≡ toldWriting written ⌝ }
 {
     match written {
         Written::Wrote(next) => WriteAnswer {
@@ -179,8 +179,7 @@ pub extern "C" fn santubeli_write(
     buffer: &mut [u32],
     at: usize,
 ) -> WriteAnswer
-    ensures told { λ r. ⌜ r ≡ writeAnswerOf (writing version instruction (now (body .entry)) (now (buffer .entry)) at) ⌝ }
-    ensures held { λ r. ⌜ now (buffer .exit) ≡ writtenBuffer version instruction (now (body .entry)) (now (buffer .entry)) at ⌝ }
+    ensures { λ r. ⌜ Writes version instruction (now (body .entry)) (now (buffer .entry)) at (writeTold r) (now (buffer .exit)) ⌝ }
 {
     let written = writing::write(version, instruction, body, buffer, at);
     write_answer_of(written)

@@ -5,15 +5,15 @@ use mathlib.Core.List.{List, [], _∷_}
 use Prim.Native.Nat.{ℕ}
 use lib.Dec.{eqb}
 use lib.ListN.{length}
-use Rattle.paper.specs.Notation.{holds}
 use Rattle.paper.specs.Numbers.{Told}
-use Rattle.paper.specs.OpcodeTable.{entryOf, rows}
-use Rattle.paper.specs.OperandTokens.{tokenAt, typedPlaces}
+use Rattle.paper.specs.OpcodeTable.{rows}
+use Rattle.paper.specs.OperandTokens.{tokenAt}
 use Rattle.paper.specs.Dcl.{declaration}
 use Rattle.paper.specs.Instruction.{head, operand, operands, judged}
-use Rattle.paper.specs.Blocks.{classOf}
+use Rattle.paper.specs.Blocks.{classes, classOf}
 use Rattle.paper.specs.Walk.{walk}
-use Rattle.paper.specs.Stream.{cutting, cutFrom, count, walked, verdict, checked}
+use Rattle.paper.specs.Stream.{cutting, cutFrom, walked, verdict, checked}
+use Rattle.paper.specs.Places.{entryOf, typedPlaces}
 use Rattle.edit.specs.Boundaries.{standing, standingAt}
 use Rattle.edit.specs.Edit.{meetsAtEnd, edited, editedIn, ToldEdit, toldEdit}
 
@@ -88,5 +88,5 @@ pieces =
     []
 
 shop-pieces : allTold pieces ≡ true
-unfolding pieces editedIn edited meetsAtEnd standingAt standing verdict walked count cutFrom cutting walk classOf judged head operand operands declaration tokenAt typedPlaces entryOf rows holds
+unfolding pieces editedIn edited meetsAtEnd standingAt standing verdict walked cutFrom cutting walk classOf classes judged head operand operands declaration tokenAt typedPlaces entryOf rows
 shop-pieces = refl

@@ -1,15 +1,20 @@
 // Operand tokens, judged at their places: document 01, "Operand tokens".
 ghost use mathlib.Core.Path.{_≡_};
 ghost use mathlib.Core.Bool.{true, false};
-ghost use lib.Dec.{eqb};
-ghost use Rattle.paper.specs.Notation.{holds};
-ghost use Rattle.paper.specs.OperandTokens.{typeOf, mayBeRelative, laid, typesAt, layoutThenType, tokenAt, bringsRelative};
+ghost use Rattle.versions.specs.Sets.{holds};
+ghost use Rattle.opcodes.specs.Places.{placeBy};
+ghost use Rattle.paper.specs.OperandTokens.{typeOf, isFree, laid, typed, layoutThenType, tokenAt, bringsRelative};
 ghost use Rattle.paper.specs.Numbers.{toldToken};
+ghost use Rattle.paper.specs.Places.{freeDestination, freeSource, relative, isRaw};
 ghost use Rattle.tokens.specs.Plain.{plainSource, plainDestination};
 use paper::Version;
 
-// The places of specs/OperandTokens.antt, by their numbers there.
+// Places, by their numbers in specs/Places.antt of the opcodes.
 const RAW: u64 = 1;
+
+const USAGE: u64 = 2;
+
+const DECLARED: u64 = 61;
 
 const KILLED: u64 = 62;
 
@@ -33,21 +38,27 @@ const OPERAND: u64 = 7;
 
 const REGISTER: u64 = 8;
 
+// The layout at a place that is neither kept as it stands nor free.
 fn typed_laid(version: Version, place: u64, token: u32) -> bool
-    requires { ⌜ mayBeRelative version place ≡ false ⌝ }
-    ensures { λ r. ⌜ r ≡ laid version place token ⌝ }
+    requires { ⌜ (isRaw (placeBy place) ≡ false) × (isFree (placeBy place) ≡ false) ⌝ }
+    ensures { λ r. ⌜ r ≡ laid version (placeBy place) token ⌝ }
 {
     if place / 32 == 1 {
         return layout::typed_destination_laid(version, token);
     }
-    layout::typed_source_laid(place, token)
+    if place == PREDICATE {
+        return layout::predicate_laid(version, token);
+    }
+    if place == RELATIVE {
+        return layout::relative_laid(version, token);
+    }
+    layout::typed_source_laid(version, token)
 }
 
-// The type at a place that is not free.
+// The type at such a place. DCL's types are told with its destination, in crate `dcl`.
 fn typed_at(version: Version, place: u64, token: u32) -> bool
-    requires not_destination { ⌜ eqb place 63 ≡ false ⌝ }
-    requires not_source { ⌜ eqb place 95 ≡ false ⌝ }
-    ensures { λ r. ⌜ r ≡ holds (typesAt version place) (typeOf token) ⌝ }
+    requires { ⌜ (isRaw (placeBy place) ≡ false) × (isFree (placeBy place) ≡ false) ⌝ }
+    ensures { λ r. ⌜ r ≡ typed version (placeBy place) (typeOf token) ⌝ }
 {
     if place == KILLED {
         return versions::type_in(KILLED_TYPES, token);
@@ -60,6 +71,9 @@ fn typed_at(version: Version, place: u64, token: u32) -> bool
     }
     if place == RELATIVE {
         return versions::relative_typed(version, token);
+    }
+    if place == DECLARED {
+        return true;
     }
     versions::type_in(1 << (place % 32), token)
 }
@@ -105,7 +119,7 @@ fn plain_destination(token: u32) -> bool
 
 // What is told of a token at a free source: 0 if it is good.
 pub fn judge_source(version: Version, token: u32) -> u64
-    ensures { λ r. ⌜ r ≡ toldToken (tokenAt version 95 token) ⌝ }
+    ensures { λ r. ⌜ r ≡ toldToken (tokenAt version freeSource token) ⌝ }
 {
     if plain_source(token) {
         return told_by_type(versions::free_source_types(version), token);
@@ -117,7 +131,7 @@ pub fn judge_source(version: Version, token: u32) -> u64
 }
 
 pub fn judge_destination(version: Version, token: u32) -> u64
-    ensures { λ r. ⌜ r ≡ toldToken (tokenAt version 63 token) ⌝ }
+    ensures { λ r. ⌜ r ≡ toldToken (tokenAt version freeDestination token) ⌝ }
 {
     if plain_destination(token) {
         return told_by_type(versions::free_destination_types(version), token);
@@ -129,17 +143,24 @@ pub fn judge_destination(version: Version, token: u32) -> u64
 }
 
 pub fn judge_relative(version: Version, token: u32) -> u64
-    ensures { λ r. ⌜ r ≡ toldToken (tokenAt version 94 token) ⌝ }
+    ensures { λ r. ⌜ r ≡ toldToken (tokenAt version relative token) ⌝ }
 {
-    if layout::typed_source_laid(RELATIVE, token) {
+    if layout::relative_laid(version, token) {
         return told_typed(versions::relative_typed(version, token));
     }
     OPERAND
 }
 
+// Whether a place's token is kept as it stands: R's, and U's, which is judged beside its destination.
+fn is_raw(place: u64) -> bool
+    ensures { λ r. ⌜ r ≡ isRaw (placeBy place) ⌝ }
+{
+    (place == RAW) | (place == USAGE)
+}
+
 // What is told of a token at any place.
 pub fn judge_token(version: Version, place: u64, token: u32) -> u64
-    ensures { λ r. ⌜ r ≡ toldToken (tokenAt version place token) ⌝ }
+    ensures { λ r. ⌜ r ≡ toldToken (tokenAt version (placeBy place) token) ⌝ }
 {
     if place == FREE_SOURCE {
         return judge_source(version, token);
@@ -147,7 +168,7 @@ pub fn judge_token(version: Version, place: u64, token: u32) -> u64
     if place == FREE_DESTINATION {
         return judge_destination(version, token);
     }
-    if place == RAW {
+    if is_raw(place) {
         return 0;
     }
     if typed_laid(version, place, token) {
@@ -158,9 +179,9 @@ pub fn judge_token(version: Version, place: u64, token: u32) -> u64
 
 // Whether a relative token follows a token that is good at its place.
 pub fn brings_relative(place: u64, token: u32) -> bool
-    ensures { λ r. ⌜ r ≡ bringsRelative place token ⌝ }
+    ensures { λ r. ⌜ r ≡ bringsRelative (placeBy place) token ⌝ }
 {
-    if place == RAW {
+    if is_raw(place) {
         return false;
     }
     token / 0x2000 % 2 == 1

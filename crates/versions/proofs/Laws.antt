@@ -1,54 +1,65 @@
 -- Laws of the register types that a version allows.
-use mathlib.Core.Path.{_≡_, refl, sym}
-use mathlib.Core.Bool.{Bool, true, false, not}
+use mathlib.Core.Path.{_≡_, refl}
+use mathlib.Core.Bool.{Bool, true, false, _||_}
 use Prim.Native.Nat.{ℕ, _<_}
+use native.Mathlib.Omega.{arith}
 use lib.Dec.{eqb}
-use Rattle.paper.specs.Notation.{pick, holds}
+use Rattle.paper.specs.Notation.{pick, among}
 use Rattle.paper.specs.Versions.{isThird}
-use Rattle.paper.specs.OperandTokens.{conditionTypes, relativeTypes}
+use Rattle.paper.specs.OperandTokens.{typeOf, freeDestinationTypes, freeSourceTypes, conditionTypes, relativeTypes}
 use Rattle.paper.specs.declared.Version.{Version}
 use Rattle.paper.specs.declared.Version.the-variants.{V2, V3, P2, P3}
-use Rattle.paper.proofs.Below.{below, below-at}
+use Rattle.versions.specs.Sets.{setOf, holds}
+use Rattle.versions.proofs.Sets.{Agrees, set-among}
 
--- sets of one or two types, as tests of a type
-abbrev same : Bool → Bool → Bool
-same true b = b
-same false b = not b
+pub type-small : (token : ℕ) → typeOf token < 32
+type-small token = omega arith
 
-same-true : (a b : Bool) → same a b ≡ true → a ≡ b
-same-true true true t = refl
-same-true true false t = sym t
-same-true false true t = t
-same-true false false t = refl
-
-abbrev isCondition : Version → ℕ → Bool
-isCondition v k = pick (eqb k 14) true (pick (eqb k 19) (isThird v) false)
-
-abbrev conditionRule : Version → ℕ → Bool
-conditionRule v k = same (holds (conditionTypes v) k) (isCondition v k)
-
-conditions : (v : Version) → below (conditionRule v) 32 ≡ true
+destinations-agree : (v : Version) → Agrees (freeDestinationTypes v)
 unfolding holds
-conditions V2 = refl
-conditions V3 = refl
-conditions P2 = refl
-conditions P3 = refl
+destinations-agree V2 = refl
+destinations-agree V3 = refl
+destinations-agree P2 = refl
+destinations-agree P3 = refl
 
-pub condition-type : (v : Version) (k : ℕ) → k < 32 → holds (conditionTypes v) k ≡ isCondition v k
-condition-type v k h = same-true (holds (conditionTypes v) k) (isCondition v k) (below-at (conditionRule v) 32 k (conditions v) h)
-
-abbrev isRelative : Version → ℕ → Bool
-isRelative v k = pick (eqb k 15) true (pick (eqb k 3) (holds (relativeTypes v) 3) false)
-
-abbrev relativeRule : Version → ℕ → Bool
-relativeRule v k = same (holds (relativeTypes v) k) (isRelative v k)
-
-relatives : (v : Version) → below (relativeRule v) 32 ≡ true
+sources-agree : (v : Version) → Agrees (freeSourceTypes v)
 unfolding holds
-relatives V2 = refl
-relatives V3 = refl
-relatives P2 = refl
-relatives P3 = refl
+sources-agree V2 = refl
+sources-agree V3 = refl
+sources-agree P2 = refl
+sources-agree P3 = refl
 
-pub relative-type : (v : Version) (k : ℕ) → k < 32 → holds (relativeTypes v) k ≡ isRelative v k
-relative-type v k h = same-true (holds (relativeTypes v) k) (isRelative v k) (below-at (relativeRule v) 32 k (relatives v) h)
+pub destination-types : (v : Version) (token : ℕ) → holds (setOf (freeDestinationTypes v)) (typeOf token) ≡ among (typeOf token) (freeDestinationTypes v)
+destination-types v token = set-among (freeDestinationTypes v) (destinations-agree v) (typeOf token) (type-small token)
+
+pub source-types : (v : Version) (token : ℕ) → holds (setOf (freeSourceTypes v)) (typeOf token) ≡ among (typeOf token) (freeSourceTypes v)
+source-types v token = set-among (freeSourceTypes v) (sources-agree v) (typeOf token) (type-small token)
+
+-- lists of one or two types, as tests in the code's order
+first-alone : (a b : Bool) → a || false ≡ pick a true (pick b false false)
+first-alone true b = refl
+first-alone false true = refl
+first-alone false false = refl
+
+first-of-two : (a b : Bool) → a || (b || false) ≡ pick a true (pick b true false)
+first-of-two true b = refl
+first-of-two false true = refl
+first-of-two false false = refl
+
+second-of-two : (a b : Bool) → a || (b || false) ≡ pick b true (pick a true false)
+second-of-two true true = refl
+second-of-two true false = refl
+second-of-two false true = refl
+second-of-two false false = refl
+
+pub condition-type : (v : Version) (k : ℕ) → among k (conditionTypes v) ≡ pick (eqb k 14) true (pick (eqb k 19) (isThird v) false)
+condition-type V2 k = first-alone (eqb k 14) (eqb k 19)
+condition-type V3 k = first-of-two (eqb k 14) (eqb k 19)
+condition-type P2 k = first-alone (eqb k 14) (eqb k 19)
+condition-type P3 k = first-of-two (eqb k 14) (eqb k 19)
+
+pub relative-type : (v : Version) (k : ℕ) → among k (relativeTypes v) ≡ pick (eqb k 15) true (pick (eqb k 3) (among 3 (relativeTypes v)) false)
+relative-type V2 k = second-of-two (eqb k 3) (eqb k 15)
+relative-type V3 k = second-of-two (eqb k 3) (eqb k 15)
+relative-type P2 k = second-of-two (eqb k 3) (eqb k 15)
+relative-type P3 k = first-alone (eqb k 15) (eqb k 3)

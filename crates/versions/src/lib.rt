@@ -2,7 +2,8 @@
 ghost use mathlib.Core.Path.{_≡_};
 ghost use mathlib.Core.Bool.{not};
 ghost use Prim.Native.Nat.{_<_};
-ghost use Rattle.paper.specs.Notation.{holds};
+ghost use Rattle.paper.specs.Notation.{among};
+ghost use Rattle.versions.specs.Sets.{setOf, holds};
 ghost use Rattle.paper.specs.Versions.{named, isPixel, isThird};
 ghost use Rattle.paper.specs.OperandTokens.{relativeSources, relativeDestinations, typeOf, freeDestinationTypes, freeSourceTypes, conditionTypes, relativeTypes};
 use paper::Named;
@@ -104,7 +105,7 @@ pub fn type_in(set: u32, token: u32) -> bool
 }
 
 pub fn free_destination_types(version: Version) -> u32
-    ensures { λ r. ⌜ r ≡ freeDestinationTypes version ⌝ }
+    ensures { λ r. ⌜ r ≡ setOf (freeDestinationTypes version) ⌝ }
 {
     if is_pixel(version) {
         PIXEL_DESTINATIONS
@@ -114,7 +115,7 @@ pub fn free_destination_types(version: Version) -> u32
 }
 
 pub fn free_source_types(version: Version) -> u32
-    ensures { λ r. ⌜ r ≡ freeSourceTypes version ⌝ }
+    ensures { λ r. ⌜ r ≡ setOf (freeSourceTypes version) ⌝ }
 {
     if is_pixel(version) {
         PIXEL_SOURCES
@@ -124,7 +125,7 @@ pub fn free_source_types(version: Version) -> u32
 }
 
 pub fn condition_typed(version: Version, token: u32) -> bool
-    ensures { λ r. ⌜ r ≡ holds (conditionTypes version) (typeOf token) ⌝ }
+    ensures { λ r. ⌜ r ≡ among (typeOf token) (conditionTypes version) ⌝ }
 {
     let kind = type_of(token);
     if kind == BOOLEAN {
@@ -138,7 +139,7 @@ pub fn condition_typed(version: Version, token: u32) -> bool
 
 // "P3: 15 only"
 fn counter_only(version: Version) -> bool
-    ensures { λ r. ⌜ not r ≡ holds (relativeTypes version) 3 ⌝ }
+    ensures { λ r. ⌜ not r ≡ among 3 (relativeTypes version) ⌝ }
 {
     match version {
         Version::V2 => false,
@@ -149,7 +150,7 @@ fn counter_only(version: Version) -> bool
 }
 
 pub fn relative_typed(version: Version, token: u32) -> bool
-    ensures { λ r. ⌜ r ≡ holds (relativeTypes version) (typeOf token) ⌝ }
+    ensures { λ r. ⌜ r ≡ among (typeOf token) (relativeTypes version) ⌝ }
 {
     let kind = type_of(token);
     if kind == COUNTER {

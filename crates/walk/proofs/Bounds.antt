@@ -9,12 +9,12 @@ use lib.ListN.{length, take, drop, length-take, length-drop}
 use borrow.Author.Tests.{leb-true}
 use Rattle.paper.specs.Notation.{pick}
 use Rattle.paper.specs.Numbers.{refusal}
-use Rattle.paper.specs.OpcodeTable.{Entry, absent, listed, entryOf, DCL}
-use Rattle.paper.specs.InstructionToken.{opcodeOf, statedSize, bitsLaid, commentOpcode, commentLength, commentLaid, endOpcode, endToken}
-use Rattle.paper.specs.OperandTokens.{relative, tokenAt, bringsRelative, leftOver}
-use Rattle.paper.specs.Dcl.{declaration, declaredAt, onDeclared, usageLaid, refusedAs}
+use Rattle.paper.specs.OpcodeTable.{DCL}
+use Rattle.paper.specs.InstructionToken.{opcodeOf, statedSize, isPredicated, withPredicate, bitsLaid, commentOpcode, commentLength, commentLaid, endOpcode, endToken}
+use Rattle.paper.specs.OperandTokens.{tokenAt, bringsRelative, leftOver, refusedOperands}
+use Rattle.paper.specs.Dcl.{declaration, declaredAt, onDeclared, usageLaid}
 use Rattle.paper.specs.OperandTokens.{typeOf}
-use Rattle.paper.specs.Instruction.{Head, broken, end, comment, dcl, operation, places, headOf, head, onToken, relativeToken, operand, onTaken, operands, onOperands, within, onHead, judged}
+use Rattle.paper.specs.Instruction.{Head, broken, end, comment, dcl, operation, headOf, head, onToken, relativeToken, operand, onTaken, operands, onOperands, within, onHead, judged}
 use Rattle.paper.specs.Blocks.{classOf}
 use Rattle.paper.specs.declared.Version.{Version}
 use Rattle.paper.specs.declared.Reason.the-variants.{Bits as BITS, RunOut as RUN-OUT, Operand as OPERAND}
@@ -29,6 +29,7 @@ use Rattle.paper.specs.declared.Class.the-variants.{One}
 use Rattle.paper.specs.declared.Single.the-variants.{Comment}
 use Rattle.paper.specs.declared.Judged.{Judged}
 use Rattle.paper.specs.declared.Judged.the-variants.{Good, Refused}
+use Rattle.paper.specs.Places.{Entry, absent, listed, entryOf, Place, relative}
 use Rattle.operands.proofs.Laws.{operand-within}
 
 -- how far a refusal lies from the instruction's first token
@@ -58,7 +59,7 @@ relative-near v offset (token ∷ rest) = by-token (tokenAt v relative token)
     by-token good = omega arith
     by-token (bad reason) = omega arith
 
-operand-near : (v : Version) (place offset : ℕ) (tokens : List ℕ) → 1 ≤ offset → takenAt (operand v place offset tokens) < offset + length tokens
+operand-near : (v : Version) (place : Place) (offset : ℕ) (tokens : List ℕ) → 1 ≤ offset → takenAt (operand v place offset tokens) < offset + length tokens
 unfolding operand
 operand-near v place offset [] h = omega arith
 operand-near v place offset (token ∷ rest) h = by-token (tokenAt v place token) (bringsRelative place token)
@@ -73,7 +74,7 @@ left-near : (tokens : List ℕ) → operandsAt (leftOver tokens) ≡ 0
 left-near [] = refl
 left-near (token ∷ rest) = refl
 
-operands-near : (v : Version) (places : List ℕ) (offset : ℕ) (tokens : List ℕ) → 1 ≤ offset →
+operands-near : (v : Version) (places : List Place) (offset : ℕ) (tokens : List ℕ) → 1 ≤ offset →
     operandsAt (operands v places offset tokens) < offset + length tokens
 unfolding operands
 operands-near v [] offset tokens h = omega (arith, left-near tokens)
@@ -94,7 +95,7 @@ declaration-near v (u ∷ []) = omega arith
 declaration-near v (u ∷ (d ∷ rest)) = by-token (declaredAt v d) (usageLaid v (typeOf d) u)
   where
     by-token : (judgement : Token) (laid : Bool) →
-        operandsAt (onDeclared judgement (pick laid (leftOver rest) (refusedAs OPERAND 1))) < suc (suc (suc (length rest)))
+        operandsAt (onDeclared judgement (pick laid (leftOver rest) (refusedOperands OPERAND 1))) < suc (suc (suc (length rest)))
     by-token good true = omega (arith, left-near rest)
     by-token good false = omega arith
     by-token (bad reason) laid = omega arith

@@ -8,10 +8,10 @@ use native.Mathlib.Omega.{arith}
 use lib.ListN.{length, drop, length-drop}
 use Rattle.paper.specs.Numbers.{refusal}
 use Rattle.paper.specs.Instruction.{judged}
-use Rattle.paper.specs.Blocks.{Cut, wrong, then, stands}
-use Rattle.paper.specs.Walk.{Kind, opened, step, go, bad, finish, atEnd, walk}
+use Rattle.paper.specs.Blocks.{Cut, wrong, then}
+use Rattle.paper.specs.Walk.{Kind, opened, step, go, bad, finish, atEnd, counts}
 use Rattle.paper.specs.Walk.{Next as Said}
-use Rattle.paper.specs.Stream.{cutOne, cutFrom, counts, count, walked}
+use Rattle.paper.specs.Stream.{cutOne, cutFrom, walked}
 use Rattle.paper.specs.declared.Version.{Version}
 use Rattle.paper.specs.declared.Class.{Class}
 use Rattle.paper.specs.declared.Class.the-variants.{One, Opens, Closes}
@@ -26,6 +26,8 @@ use Rattle.paper.specs.declared.Verdict.the-variants.{Accepted, Refused as no-v
 use Rattle.blocks.specs.Reach.{here, past}
 use Rattle.blocks.proofs.Cutting.{cut-none, cut-at}
 use Rattle.blocks.proofs.Reach.{reached, reaches-on}
+use Rattle.blocks.specs.Nesting.{nesting, count}
+use Rattle.blocks.proofs.Counting.{counts-add, walked-nesting}
 use Rattle.walk.specs.declared.State.{State}
 use Rattle.walk.specs.declared.Stepped.the-variants.{On, Done, Refused}
 use Rattle.walk.specs.Kinds.{numberOf, numbered, nextBy}
@@ -35,19 +37,6 @@ use Rattle.walk.proofs.OpenBlocks.{next-is, step-few}
 use Rattle.walk.proofs.Bounds.{judged-near, judged-in}
 
 -- what an instruction adds to a count
-
-pub counts-add : (c : Class) (a n : ℕ) → a + counts c n ≡ counts c a + n
-counts-add (One Comment) a n = refl
-counts-add (One Plain) a n = omega arith
-counts-add (One Break) a n = omega arith
-counts-add (One Label) a n = omega arith
-counts-add (One Return) a n = omega arith
-counts-add (Opens o) a n = omega arith
-counts-add (Closes Else) a n = omega arith
-counts-add (Closes EndIf) a n = omega arith
-counts-add (Closes EndLoop) a n = omega arith
-counts-add (Closes EndRep) a n = omega arith
-counts-add (Closes End) a n = refl
 
 counts-most : (c : Class) (n : ℕ) → counts c n ≤ suc n
 counts-most (One Comment) n = omega arith
@@ -76,13 +65,12 @@ stands-first v s h =
 
 -- the verdict is that of what is left
 module _ (v : Version) (s : List ℕ) (state : State) (h : Stands v s state) where
-  pub stands-verdict : walked v s ≡ walk (count (cutFrom v s 1)) (cutFrom v s (state .at)) (h .opened)
-  unfolding walked
-  stands-verdict = reached (h .reaches) (count (cutFrom v s 1))
+  pub stands-verdict : walked v s ≡ nesting (count (cutFrom v s 1)) (cutFrom v s (state .at)) (h .opened)
+  stands-verdict = walked-nesting v s ∙ reached (h .reaches) (count (cutFrom v s 1))
 
   -- "no token where an instruction must start" is RUN-OUT at the token count
   pub stands-out : length s ≤ state .at → walked v s ≡ no-verdict (refusal RUN-OUT (length s))
-  unfolding walk
+  unfolding nesting
   stands-out le =
       let at : state .at ≡ length s = omega (arith, h .within) in
       stands-verdict ∙ rw (cut-none v s (state .at) le, at)
@@ -136,12 +124,12 @@ module _ (v : Version) (s : List ℕ) (state : State) (h : Stands v s state) (lt
         }
 
     ends-behind : (kinds : ℕ) → step (h .opened) class ≡ finish → Ends v s (stateAt (state .at + suc size) (counts class (state .count)) kinds)
-    unfolding walk
+    unfolding nesting
     ends-behind kinds f =
         record { within = omega (arith, size-in); verdict = stands-verdict v s state h ∙ rw (cut-good, f); counts = counts-behind }
 
     refused-here : (reason : Reason) → step (h .opened) class ≡ bad reason → walked v s ≡ no-verdict (refusal reason (state .at))
-    unfolding walk
+    unfolding nesting
     refused-here reason f = stands-verdict v s state h ∙ rw (cut-good, f)
 
     next-said : nextBy (state .kinds) class ≡ numbered (step (h .opened) class)
@@ -177,7 +165,7 @@ module _ (v : Version) (s : List ℕ) (state : State) (h : Stands v s state) (lt
   -- a refused instruction
   refused-unfit : (q : Refusal) → judged v (drop (state .at) s) ≡ unfit q → (r : Refusal) → onJudged (unfit q) state ≡ Refused r →
       walked v s ≡ no-verdict r
-  unfolding walk
+  unfolding nesting
   refused-unfit q e r g =
       let some : 0 < length (drop (state .at) s) = omega (arith, length-drop (state .at) s) in
       let near : q .position < length (drop (state .at) s) = rw e at (judged-near v (drop (state .at) s) some) in

@@ -9,8 +9,8 @@ use lib.Dec.{eqb, ltb}
 use lib.ListN.{length}
 use borrow.Author.Tests.{ne-eqb, lt-ltb, le-ltb, ltb-true, ltb-false}
 use Rattle.paper.specs.Notation.{pick}
-use Rattle.paper.specs.Blocks.{mostOpen, stands, isZero}
-use Rattle.paper.specs.Walk.{Kind, opened, pastElse, loops, inLoop, closerNumber, closes, elses, closeAt, step, go, bad, finish}
+use Rattle.paper.specs.Blocks.{mostOpen, mayStand, isZero}
+use Rattle.paper.specs.Walk.{Kind, opened, pastElse, loops, inLoop, isEnd, closes, elses, closeAt, step, go, bad, finish}
 use Rattle.paper.specs.declared.Class.{Class}
 use Rattle.paper.specs.declared.Class.the-variants.{One, Opens, Closes}
 use Rattle.paper.specs.declared.Single.{Single}
@@ -206,7 +206,7 @@ none-few true ls e = let z : _≡_ {A = ℕ} 0 1 = cc in absurd (omega arith)
 none-few false ls e = let z : _≡_ {A = ℕ} 0 1 = cc in absurd (omega arith)
 
 pub step-few : (ks ls : List Kind) (c : Class) → length ks ≤ 24 → step ks c ≡ go ls → length ls ≤ 24
-step-few ks ls (One s) h e = pick-few (stands (length ks) (inLoop ks) s) ks ls BLOCK h e
+step-few ks ls (One s) h e = pick-few (mayStand (length ks) (inLoop ks) s) ks ls BLOCK h e
 step-few ks ls (Opens o) h e = open-few (ltb (length ks) mostOpen) ks ls o refl e
-step-few [] ls (Closes c) h e = none-few (eqb (closerNumber c) (closerNumber End)) ls e
+step-few [] ls (Closes c) h e = none-few (isEnd c) ls e
 step-few (k ∷ ks) ls (Closes c) h e = close-few (elses c k) (closes c k) k ks ls h e

@@ -5,9 +5,10 @@ use mathlib.Core.List.{List, []}
 use lib.ListN.{length, drop}
 use Rattle.paper.specs.Instruction.{judged}
 use Rattle.paper.specs.Walk.{Kind, atEnd}
-use Rattle.paper.specs.Stream.{cutFrom, count, walked}
+use Rattle.paper.specs.Stream.{cutFrom, walked}
 use Rattle.paper.specs.declared.Version.{Version}
 use Rattle.blocks.specs.Reach.{Reaches}
+use Rattle.blocks.specs.Nesting.{count}
 use Rattle.walk.specs.declared.State.{State}
 use Rattle.walk.specs.declared.Stepped.{Stepped}
 use Rattle.walk.specs.Kinds.{numberOf}

@@ -2,10 +2,10 @@
 -- Document 01, "The numbers given back": RUN-OUT, the operands, then BLOCK and DEPTH.
 use Prim.Native.Nat.{ℕ, _+_, _%_, _^_}
 use Rattle.paper.specs.Numbers.{refusal}
-use Rattle.paper.specs.Stream.{counts}
 use Rattle.paper.specs.declared.Class.{Class}
 use Rattle.paper.specs.declared.Judged.{Judged}
 use Rattle.paper.specs.declared.Judged.the-variants.{Good, Refused as unfit}
+use Rattle.paper.specs.Walk.{counts}
 use Rattle.walk.specs.declared.Next.{Next}
 use Rattle.walk.specs.declared.Next.the-variants.{Go, Bad, Finish}
 use Rattle.walk.specs.declared.State.{State}

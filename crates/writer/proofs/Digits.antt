@@ -1,7 +1,7 @@
 -- A token, put together from its fields: one law for each digit, and a sum of them for each layout.
 use mathlib.Core.Path.{_≡_, sym, ap, _∙_}
 use Prim.Native.Nat.{ℕ, _+_, _*_, _/_, _%_, _^_, _<_}
-use native.Mathlib.Nat.{mod-add-div, div-div-eq-div-mul, mod-lt}
+use native.Mathlib.Nat.{mod-add-div, div-div-eq-div-mul, mod-lt, div-one}
 use native.Mathlib.Omega.{arith}
 use lib.Dec.{lit<}
 use Rattle.paper.specs.Notation.{bits, bit}
@@ -32,7 +32,7 @@ glue n h r z m l a b c d e f i j = omega arith
 module _ (t : ℕ) (word : t < 2 ^ 32) (zeros : bits 15 14 t ≡ 0) (mark : bit 31 t ≡ 1) where
   pub token-back : tokenOf (numberField t) (typeOf t) (bit 13 t) (bits 27 16 t) ≡ t
   token-back =
-      rw (high (bits 30 28 t) (bits 12 11 t) (mod-lt (t / 2 ^ 28) (lit< tt)), low (bits 30 28 t) (bits 12 11 t) (mod-lt (t / 2 ^ 28) (lit< tt)))
+      rw (div-one t, high (bits 30 28 t) (bits 12 11 t) (mod-lt (t / 2 ^ 28) (lit< tt)), low (bits 30 28 t) (bits 12 11 t) (mod-lt (t / 2 ^ 28) (lit< tt)))
       (glue (t % 2 ^ 11) (t / 2 ^ 11 % 4) (t / 2 ^ 13 % 2) (t / 2 ^ 14 % 4) (t / 2 ^ 16 % 2 ^ 12) (t / 2 ^ 28 % 8)
       (sym (mod-add-div t 2048)) (split t 2048 4) (split t 8192 2) (split t 16384 4) (split t 65536 4096) (split t 268435456 8) zeros (top t word ∙ mark))
 
@@ -75,12 +75,13 @@ none-above t h = omega arith
 pub instruction-back : (t : ℕ) → t < 2 ^ 32 → bits 31 29 t ≡ 0 →
     opcodeOf t + (2 ^ 16 * controlsOf t + (2 ^ 24 * statedSize t + 2 ^ 28 * bit 28 t)) ≡ t
 instruction-back t word zeros =
-    glue-instruction (t % 65536) (t / 65536 % 256) (t / 16777216 % 16) (t / 268435456 % 2) (sym (mod-add-div t 65536)) (split t 65536 256) (split t 16777216 16) (split t 268435456 2)
-    (none-above t word ∙ zeros)
+    rw (div-one t)
+    (glue-instruction (t % 65536) (t / 65536 % 256) (t / 16777216 % 16) (t / 268435456 % 2) (sym (mod-add-div t 65536)) (split t 65536 256) (split t 16777216 16) (split t 268435456 2)
+    (none-above t word ∙ zeros))
 
 glue-comment : (o n : ℕ) {t q0 q1 : ℕ} → t ≡ o + 65536 * q0 → q0 ≡ n + 32768 * q1 → q1 ≡ 0 → o + 65536 * n ≡ t
 glue-comment o n a b c = omega arith
 
 pub comment-back : (t : ℕ) → t < 2 ^ 32 → bit 31 t ≡ 0 → opcodeOf t + 2 ^ 16 * commentLength t ≡ t
 comment-back t word zero =
-    glue-comment (t % 65536) (t / 65536 % 32768) (sym (mod-add-div t 65536)) (split t 65536 32768) (top t word ∙ zero)
+    rw (div-one t) (glue-comment (t % 65536) (t / 65536 % 32768) (sym (mod-add-div t 65536)) (split t 65536 32768) (top t word ∙ zero))

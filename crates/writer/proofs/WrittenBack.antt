@@ -9,9 +9,7 @@ use lib.ListN.{length, take, getD}
 use lib.Seq.{getD-at, length-take-le}
 use borrow.Author.Tests.{eqb-true, leb-true}
 use Rattle.paper.specs.Notation.{pick, bits}
-use Rattle.paper.specs.OpcodeTable.{Letter, D, S, R, U}
-use Rattle.paper.specs.InstructionToken.{opcodeOf, statedSize, isPredicated}
-use Rattle.paper.specs.OperandTokens.{Typed, typedPlaces, predicate, free, placeIn, placesFrom, withPredicate}
+use Rattle.paper.specs.InstructionToken.{opcodeOf, statedSize, isPredicated, withPredicate}
 use Rattle.paper.specs.Dcl.{declaration}
 use Rattle.paper.specs.Instruction.{Head, broken, end, comment, dcl, operation, head, operands, onHead, judged}
 use Rattle.paper.specs.Blocks.{classOf}
@@ -19,53 +17,25 @@ use Rattle.paper.specs.declared.Version.{Version}
 use Rattle.paper.specs.declared.Class.{Class}
 use Rattle.paper.specs.declared.Judged.the-variants.{Good as Lawful}
 use Rattle.paper.proofs.Below.{both-left, both-right}
+use Rattle.paper.specs.Places.{Place, isPredicate}
 use Rattle.records.specs.declared.Operand.{Operand}
 use Rattle.records.specs.Record.{noOperand, inOrder, predicateOr, padded, arrayOf, declaredPlaces, instructionRecord, recordOn, recordOf}
 use Rattle.records.specs.Encoded.{ordered}
+use Rattle.opcodes.proofs.Laws.{unpredicated, row-unpredicated}
 use Rattle.records.proofs.Heads.{IsListed, is-end, is-comment, is-dcl, is-operation, operation-few}
 use Rattle.records.proofs.Passed.{AllPassed, all-passed}
 use Rattle.records.proofs.Good.{operands-good, comment-good}
 use Rattle.records.proofs.Declared.{declared-passed}
 use Rattle.writer.specs.Tokens.{Words, rowTokens, rowOf, tokensOf, bodyOn, bodyOf}
 use Rattle.writer.proofs.Digits.{instruction-back, comment-back}
-use Rattle.writer.proofs.Operands.{not-true, words-take, unpredicated, single, row-back}
+use Rattle.writer.proofs.Operands.{not-true, words-take, single, row-back}
 
--- no place of the table is the predicate's
-noneIn : List Typed → Bool
-noneIn [] = true
-noneIn (t ∷ ts) = not (eqb (t .place) predicate) && noneIn ts
-
-module _ (opcode operand other : ℕ) (o : eqb other predicate ≡ false) where
-  picked : (b : Bool) (place rest : ℕ) → eqb place predicate ≡ false → eqb rest predicate ≡ false → eqb (pick b place rest) predicate ≡ false
-  picked true place rest p r = p
-  picked false place rest p r = r
-
-  place-other : (typed : List Typed) → noneIn typed ≡ true → eqb (placeIn typed opcode operand other) predicate ≡ false
-  unfolding noneIn
-  place-other [] n = o
-  place-other (t ∷ ts) n =
-      picked (eqb opcode (t .opcode) && eqb operand (t .operand)) (t .place) (placeIn ts opcode operand other)
-      (not-true (eqb (t .place) predicate) (both-left (not (eqb (t .place) predicate)) _ n))
-      (place-other ts (both-right (not (eqb (t .place) predicate)) _ n))
-
-free-other : (letter : Letter) → eqb (free letter) predicate ≡ false
-free-other D = refl
-free-other S = refl
-free-other R = refl
-free-other U = refl
-
-pub row-unpredicated : (opcode operand : ℕ) (letters : List Letter) → unpredicated (placesFrom opcode operand letters) ≡ true
-unfolding typedPlaces noneIn
-row-unpredicated opcode operand [] = refl
-row-unpredicated opcode operand (letter ∷ letters) =
-    rw (place-other opcode operand (free letter) (free-other letter) typedPlaces refl) (row-unpredicated opcode (suc operand) letters)
-
-row-single : (predicated : Bool) (row : List ℕ) → unpredicated row ≡ true → single (withPredicate predicated row) ≡ true
+row-single : (predicated : Bool) (row : List Place) → unpredicated row ≡ true → single (withPredicate predicated row) ≡ true
 row-single true [] h = refl
 row-single false [] h = refl
 row-single predicated (place ∷ row) h =
-    rw (not-true (eqb place predicate) (both-left (not (eqb place predicate)) _ h))
-    (row-single predicated row (both-right (not (eqb place predicate)) _ h))
+    rw (not-true (isPredicate place) (both-left (not (isPredicate place)) _ h))
+    (row-single predicated row (both-right (not (isPredicate place)) _ h))
 
 -- the operands of a record
 padded-length : (n : ℕ) (operands : List Operand) → length (padded n operands) ≡ n
@@ -73,7 +43,7 @@ padded-length zero operands = refl
 padded-length (suc n) [] = ap suc (padded-length n [])
 padded-length (suc n) (operand ∷ operands) = ap suc (padded-length n operands)
 
-behind-back : {v : Version} (row tokens : List ℕ) → AllPassed v row tokens → Words tokens → ordered row ≤ 5 → single row ≡ true →
+behind-back : {v : Version} (row : List Place) (tokens : List ℕ) → AllPassed v row tokens → Words tokens → ordered row ≤ 5 → single row ≡ true →
     rowTokens row (arrayOf row tokens) (getD (arrayOf row tokens) 5 noOperand) ≡ tokens
 unfolding arrayOf
 behind-back row tokens passed words few once =
@@ -81,8 +51,8 @@ behind-back row tokens passed words few once =
     (row-back passed words 5 few once (predicateOr noOperand row tokens ∷ []) noOperand)
 
 -- an instruction of the table
-module _ (v : Version) (first n : ℕ) (behind row : List ℕ) (l : IsListed v first) (word : first < 2 ^ 32) (stated : statedSize first ≡ n)
-    (sized : length behind ≡ n) (row-is : rowOf (instructionRecord first (arrayOf row behind)) (l .letters) ≡ row)
+module _ (v : Version) (first n : ℕ) (behind : List ℕ) (row : List Place) (l : IsListed v first) (word : first < 2 ^ 32) (stated : statedSize first ≡ n)
+    (sized : length behind ≡ n) (row-is : rowOf (instructionRecord first (arrayOf row behind)) (l .places) ≡ row)
     (back : rowTokens row (arrayOf row behind) (getD (arrayOf row behind) 5 noOperand) ≡ behind) where
   zeros : bits 31 29 first ≡ 0
   zeros = eqb-true _ _ (both-left (eqb (bits 31 29 first) 0) _ (l .laid))
@@ -110,16 +80,16 @@ module _ (v : Version) (first : ℕ) (rest : List ℕ) (word : first < 2 ^ 32) (
       let sized = length-take-le n rest (leb-true n (length rest) (good .0)) in
       let passed = declared-passed v (take n rest) (good .1) in
       rw (← good .2)
-      (listed-back v first n (take n rest) declaredPlaces (it .found) word (it .stated) sized (rw (it .opcode))
+      (listed-back v first n (take n rest) declaredPlaces (it .found) word (it .stated) sized (rw (it .unpredicated, it .row))
       (behind-back declaredPlaces (take n rest) passed (words-take n rest words) (omega arith) refl) [])
   back-by (operation row n) c e j =
       let good = operands-good (leb n (length rest)) (operands v row 1 (take n rest)) n c j in
       let it = is-operation v first row n e in
       let sized = length-take-le n rest (leb-true n (length rest) (good .0)) in
       let passed = all-passed v row 1 (take n rest) (good .1) in
-      let once : single row ≡ true = rw (it .row-of) at (row-single (isPredicated first) (placesFrom (opcodeOf first) 0 (it .found .letters)) (row-unpredicated (opcodeOf first) 0 (it .found .letters))) in
+      let once : single row ≡ true = rw (it .row-of) at (row-single (isPredicated first) (it .found .places) (row-unpredicated v (opcodeOf first) (it .found .places) (it .found .entry))) in
       rw (← good .2)
-      (listed-back v first n (take n rest) row (it .found) word (it .stated) sized (rw (it .no-dcl) (it .row-of))
+      (listed-back v first n (take n rest) row (it .found) word (it .stated) sized (it .row-of)
       (behind-back row (take n rest) passed (words-take n rest words) (operation-few v first row n e) once) [])
 
 pub written-back : (v : Version) (tokens : List ℕ) {size : ℕ} {class : Class} → Words tokens → judged v tokens ≡ Lawful size class →

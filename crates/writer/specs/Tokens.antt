@@ -4,14 +4,13 @@ use mathlib.Core.List.{List, [], _∷_, _++_}
 use lib.Dec.{eqb}
 use lib.ListN.{length, take, drop, getD}
 use Rattle.paper.specs.Notation.{pick}
-use Rattle.paper.specs.OpcodeTable.{Letter, Entry, absent, listed, entryOf, DCL}
-use Rattle.paper.specs.InstructionToken.{commentOpcode, endOpcode, endToken}
-use Rattle.paper.specs.OperandTokens.{raw, predicate, placesFrom, withPredicate}
+use Rattle.paper.specs.InstructionToken.{commentOpcode, endOpcode, endToken, withPredicate}
 use Rattle.paper.specs.Instruction.{Head, broken, end, comment, dcl, operation, head}
 use Rattle.paper.specs.declared.Version.{Version}
+use Rattle.paper.specs.Places.{Entry, absent, listed, entryOf, Place, isRaw, isPredicate}
 use Rattle.records.specs.declared.Operand.{Operand}
 use Rattle.records.specs.declared.Record.{Record}
-use Rattle.records.specs.Record.{noOperand, declaredPlaces}
+use Rattle.records.specs.Record.{noOperand}
 
 -- each token is a number of 32 bits
 unfoldable pub Words : List ℕ → Type 0
@@ -32,16 +31,16 @@ operandToken operand = tokenOf (operand .number) (operand .kind) (operand .relat
 unfoldable pub relativeToken : Operand → ℕ
 relativeToken operand = tokenOf (operand .«relative_number») (operand .«relative_kind») 0 (operand .«relative_swizzle»)
 
-unfoldable pub operandTokens : ℕ → Operand → List ℕ
+unfoldable pub operandTokens : Place → Operand → List ℕ
 operandTokens place operand =
-    pick (eqb place raw) (operand .raw ∷ [])
+    pick (isRaw place) (operand .raw ∷ [])
     (operandToken operand ∷ pick (eqb (operand .relative) 1) (relativeToken operand ∷ []) [])
 
 -- the operands of a row of places: those in token order one after the other, and the predicate where the row has it
-unfoldable pub rowTokens : List ℕ → List Operand → Operand → List ℕ
+unfoldable pub rowTokens : List Place → List Operand → Operand → List ℕ
 rowTokens [] inOrder predicated = []
 rowTokens (place ∷ places) inOrder predicated =
-    pick (eqb place predicate) (operandTokens place predicated ++ rowTokens places inOrder predicated)
+    pick (isPredicate place) (operandTokens place predicated ++ rowTokens places inOrder predicated)
     (operandTokens place (getD inOrder 0 noOperand) ++ rowTokens places (drop 1 inOrder) predicated)
 
 -- "Bits 27:24 are the size without this token." "Bit 28 says predicated"
@@ -51,16 +50,15 @@ instructionToken r size = r .opcode + (2 ^ 16 * r .controls + (2 ^ 24 * size + 2
 abbrev pub commentToken : ℕ → ℕ
 commentToken n = commentOpcode + 2 ^ 16 * n
 
-abbrev pub rowOf : Record → List Letter → List ℕ
-rowOf r letters =
-    pick (eqb (r .opcode) DCL) declaredPlaces (withPredicate (eqb (r .predicated) 1) (placesFrom (r .opcode) 0 letters))
+abbrev pub rowOf : Record → List Place → List Place
+rowOf r places = withPredicate (eqb (r .predicated) 1) places
 
-abbrev pub behindOf : Record → List ℕ → List ℕ
+abbrev pub behindOf : Record → List Place → List ℕ
 behindOf r places = rowTokens places (r .operands) (getD (r .operands) 5 noOperand)
 
 abbrev pub listedTokens : Record → Entry → List ℕ
 listedTokens r absent = []
-listedTokens r (listed letters) = instructionToken r (length (behindOf r (rowOf r letters))) ∷ behindOf r (rowOf r letters)
+listedTokens r (listed places) = instructionToken r (length (behindOf r (rowOf r places))) ∷ behindOf r (rowOf r places)
 
 -- the tokens of a record, with a comment's body
 unfoldable pub tokensOf : Version → Record → List ℕ → List ℕ

@@ -1,4 +1,4 @@
--- The writer's answers one by one: what shows RECORD, ROOM and a yes, and what the buffer then holds.
+-- The answers that the code decides, one by one: what shows RECORD, ROOM and a yes, and what the buffer then holds.
 use mathlib.Core.Path.{_≡_, refl, sym, ap, _∙_}
 use mathlib.Core.Bool.{Bool, true, false}
 use mathlib.Core.List.{List, [], _∷_}
@@ -9,7 +9,7 @@ use lib.ListN.{length, take, drop}
 use borrow.Author.Tests.{eqb-true, eq-eqb, ne-eqb, leb-true}
 use borrow.Rule.Slice.PartMut.{putMid}
 use Rattle.paper.specs.Notation.{pick}
-use Rattle.paper.specs.Versions.{tokenOf, named}
+use Rattle.paper.specs.Versions.{versionToken, named}
 use Rattle.paper.specs.Numbers.{refusal}
 use Rattle.paper.specs.InstructionToken.{commentOpcode}
 use Rattle.paper.specs.declared.Version.{Version}
@@ -21,21 +21,21 @@ use Rattle.records.specs.declared.Record.{Record}
 use Rattle.writer.specs.Tokens.{commentToken, tokensOf}
 use Rattle.writing.specs.declared.Written.the-variants.{Wrote, Refused}
 use Rattle.writing.specs.Buffer.{wordsOf, pasted, onFront}
-use Rattle.writing.specs.Writing.{longestComment, yieldedComment, readsBack, writable, writingIn, contentIn}
+use Rattle.writing.specs.Decided.{longestComment, yieldedComment, readsBack, writable, writingIn, contentIn}
 use Rattle.writing.proofs.Paste.{part-front}
 use Rattle.writing.proofs.Yielding.{tokens-are-words}
 
 -- the version that a token names
-pub version-named : (token : ℕ) (v : Version) → named token ≡ Known v → token ≡ tokenOf v
+pub version-named : (token : ℕ) (v : Version) → named token ≡ Known v → token ≡ versionToken v
 version-named token v e =
-    by (eqb token (tokenOf V2)) (eqb token (tokenOf V3)) (eqb token (tokenOf P2)) (eqb token (tokenOf P3)) refl refl refl refl e
+    by (eqb token (versionToken V2)) (eqb token (versionToken V3)) (eqb token (versionToken P2)) (eqb token (versionToken P3)) refl refl refl refl e
   where
-    by : (a b c d : Bool) → eqb token (tokenOf V2) ≡ a → eqb token (tokenOf V3) ≡ b → eqb token (tokenOf P2) ≡ c → eqb token (tokenOf P3) ≡ d →
-        pick a (Known V2) (pick b (Known V3) (pick c (Known P2) (pick d (Known P3) Unknown))) ≡ Known v → token ≡ tokenOf v
-    by true b c d p q r s h = let same : V2 ≡ v = cc in rw (← same) (eqb-true token (tokenOf V2) p)
-    by false true c d p q r s h = let same : V3 ≡ v = cc in rw (← same) (eqb-true token (tokenOf V3) q)
-    by false false true d p q r s h = let same : P2 ≡ v = cc in rw (← same) (eqb-true token (tokenOf P2) r)
-    by false false false true p q r s h = let same : P3 ≡ v = cc in rw (← same) (eqb-true token (tokenOf P3) s)
+    by : (a b c d : Bool) → eqb token (versionToken V2) ≡ a → eqb token (versionToken V3) ≡ b → eqb token (versionToken P2) ≡ c → eqb token (versionToken P3) ≡ d →
+        pick a (Known V2) (pick b (Known V3) (pick c (Known P2) (pick d (Known P3) Unknown))) ≡ Known v → token ≡ versionToken v
+    by true b c d p q r s h = let same : V2 ≡ v = cc in rw (← same) (eqb-true token (versionToken V2) p)
+    by false true c d p q r s h = let same : V3 ≡ v = cc in rw (← same) (eqb-true token (versionToken V3) q)
+    by false false true d p q r s h = let same : P2 ≡ v = cc in rw (← same) (eqb-true token (versionToken P2) r)
+    by false false false true p q r s h = let same : P3 ≡ v = cc in rw (← same) (eqb-true token (versionToken P3) s)
     by false false false false p q r s h = let z : _≡_ {A = ℕ} 0 1 = cc in absurd (omega arith)
 
 module _ (v : Version) (r : Record) (body buffer : List ℕ) (at : ℕ) where
@@ -50,10 +50,10 @@ module _ (v : Version) (r : Record) (body buffer : List ℕ) (at : ℕ) where
     unfolding writingIn contentIn
     refused-room f = (rw (w, f), rw (w, f))
 
-    pub written : leb (at + length (tokensOf v r body)) (length buffer) ≡ true →
+    pub yes-written : leb (at + length (tokensOf v r body)) (length buffer) ≡ true →
         (writingIn v r body buffer at ≡ Wrote (at + length (tokensOf v r body))) × (contentIn v r body buffer at ≡ pasted buffer at (tokensOf v r body))
     unfolding writingIn contentIn
-    written f = (rw (w, f), rw (w, f))
+    yes-written f = (rw (w, f), rw (w, f))
 
 -- a comment
 module _ (v : Version) (r : Record) (is : r .opcode ≡ commentOpcode) where

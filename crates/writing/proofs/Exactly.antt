@@ -1,95 +1,90 @@
--- The writer in the paper's words: RECORD exactly where the record is none that reading yields in this version, or the body's length does
--- not agree; then ROOM exactly where the tokens do not fit; else a yes.
-use mathlib.Core.Path.{_≡_, refl, sym, _∙_}
+-- The code decides as document 01 says: what it decides meets the definition, and nothing else does.
+use mathlib.Core.Path.{_≡_, refl, sym, ap, _∙_}
 use mathlib.Core.Bool.{Bool, true, false}
 use mathlib.Core.List.{List}
-use Prim.Native.Nat.{ℕ, _+_, _≤_, _<_}
+use Prim.Native.Nat.{ℕ, _+_, _≤_}
 use native.Mathlib.Omega.{arith}
 use lib.Dec.{leb}
 use lib.ListN.{length}
-use borrow.Author.Tests.{leb-true, le-leb, lt-leb}
-use Rattle.paper.specs.Versions.{tokenOf, named}
-use Rattle.paper.specs.Numbers.{refusal}
+use borrow.Author.Tests.{leb-true, leb-false, le-leb, lt-leb}
+use Rattle.paper.specs.Versions.{named}
 use Rattle.paper.specs.declared.Version.{Version}
-use Rattle.paper.specs.declared.Named.the-variants.{Unknown}
-use Rattle.paper.specs.declared.Reason.the-variants.{Version as VERSION, Room as ROOM, Record as RECORD}
+use Rattle.paper.specs.declared.Named.{Named}
+use Rattle.paper.specs.declared.Named.the-variants.{Known, Unknown}
 use Rattle.records.specs.declared.Record.{Record}
 use Rattle.writer.specs.Tokens.{tokensOf}
-use Rattle.writing.specs.declared.Written.the-variants.{Wrote, Refused}
+use Rattle.writing.specs.declared.Written.the-variants.{Wrote}
 use Rattle.writing.specs.Buffer.{pasted}
-use Rattle.writing.specs.Writing.{Yielded, bodyLength, writable, writingIn, contentIn, writing, bufferAfter}
-use Rattle.writing.proofs.Readings.{known}
-use Rattle.writing.proofs.Yielding.{writable-yielded, yielded-writable}
-use Rattle.writing.proofs.Answers.{refused-record, refused-room, written}
+use Rattle.writing.specs.Writing.{Writable, ToldWriting, toldWriting, Writes, unnamed, unwritable, cramped, written}
+use Rattle.writing.specs.Decided.{writable, writingIn, contentIn, writingOn, contentOn, writing, bufferAfter}
+use Rattle.writing.proofs.Yielding.{passed-writable, writable-passes, failed-unwritable, unwritable-fails}
+use Rattle.writing.proofs.Answers.{refused-record, refused-room, yes-written}
 
--- no version
-pub version-refused : (version : ℕ) (r : Record) (body buffer : List ℕ) (at : ℕ) → named version ≡ Unknown →
-    (writing version r body buffer at ≡ Refused (refusal VERSION 0)) × (bufferAfter version r body buffer at ≡ buffer)
-unfolding writing bufferAfter
-version-refused version r body buffer at n = (rw n, rw n)
+module _ (version : ℕ) (r : Record) (body buffer : List ℕ) (at : ℕ) where
+  -- what the code decides meets the definition
+  module _ (v : Version) (n : named version ≡ Known v) where
+    by-tests : (can fits : Bool) → writable v r (length body) ≡ can → leb (at + length (tokensOf v r body)) (length buffer) ≡ fits →
+        Writes version r body buffer at (toldWriting (writingIn v r body buffer at)) (contentIn v r body buffer at)
+    by-tests true true w f =
+        let e = yes-written v r body buffer at w f in
+        rw (e .0, e .1) (written n (passed-writable v r body w) (leb-true (at + length (tokensOf v r body)) (length buffer) f))
+    by-tests true false w f =
+        let e = refused-room v r body buffer at w f in
+        rw (e .0, e .1) (cramped n (passed-writable v r body w) (leb-false (at + length (tokensOf v r body)) (length buffer) f))
+    by-tests false fits w f =
+        let e = refused-record v r body buffer at w in
+        rw (e .0, e .1) (unwritable n (failed-unwritable v r body w))
 
-module _ (v : Version) (r : Record) (body buffer : List ℕ) (at : ℕ) where
-  in-version : writing (tokenOf v) r body buffer at ≡ writingIn v r body buffer at
-  unfolding writing
-  in-version = rw (known v)
+    pub known-writes : Writes version r body buffer at (toldWriting (writingIn v r body buffer at)) (contentIn v r body buffer at)
+    known-writes = by-tests (writable v r (length body)) (leb (at + length (tokensOf v r body)) (length buffer)) refl refl
 
-  after-version : bufferAfter (tokenOf v) r body buffer at ≡ contentIn v r body buffer at
-  unfolding bufferAfter
-  after-version = rw (known v)
+  by-name : (n : Named) → named version ≡ n → Writes version r body buffer at (toldWriting (writingOn n r body buffer at)) (contentOn n r body buffer at)
+  by-name (Known v) n = known-writes v n
+  by-name Unknown n = unnamed n
 
-  Agrees : Type 0
-  Agrees = Yielded v r × (length body ≡ bodyLength r)
+  pub decided-writes : Writes version r body buffer at (toldWriting (writing version r body buffer at)) (bufferAfter version r body buffer at)
+  unfolding writing bufferAfter
+  decided-writes = by-name (named version) refl
 
-  unwritable : (b : Bool) → writable v r (length body) ≡ b → (Agrees → ⊥) → writable v r (length body) ≡ false
-  unfolding Agrees
-  unwritable true w n = absurd (n (writable-yielded v r (length body) w))
-  unwritable false w n = w
+  -- what meets the definition is what the code decides
+  pub writes-decided : {told : ToldWriting} {after : List ℕ} → Writes version r body buffer at told after →
+      (told ≡ toldWriting (writing version r body buffer at)) × (after ≡ bufferAfter version r body buffer at)
+  unfolding writing bufferAfter
+  writes-decided (unnamed n) = (rw n, rw n)
+  writes-decided (unwritable {v} n w) =
+      let e = refused-record v r body buffer at (unwritable-fails v r body w) in
+      (rw (n, e .0), rw (n, e .1))
+  writes-decided (cramped {v} n w h) =
+      let e = refused-room v r body buffer at (writable-passes v r body w) (lt-leb (at + length (tokensOf v r body)) (length buffer) h) in
+      (rw (n, e .0), rw (n, e .1))
+  writes-decided (written {v} n w h) =
+      let e = yes-written v r body buffer at (writable-passes v r body w) (le-leb (at + length (tokensOf v r body)) (length buffer) h) in
+      (rw (n, e .0), rw (n, e .1))
 
-  pub record-refused : (Yielded v r × (length body ≡ bodyLength r) → ⊥) →
-      (writing (tokenOf v) r body buffer at ≡ Refused (refusal RECORD 0)) × (bufferAfter (tokenOf v) r body buffer at ≡ buffer)
-  unfolding Agrees
-  record-refused n =
-      let e = refused-record v r body buffer at (unwritable (writable v r (length body)) refl n) in
-      (in-version ∙ e .0, after-version ∙ e .1)
+  -- so the definition leaves one answer and one content
+  pub one-writing : {a b : ToldWriting} {x y : List ℕ} → Writes version r body buffer at a x → Writes version r body buffer at b y → (a ≡ b) × (x ≡ y)
+  one-writing p q =
+      let one = writes-decided p in
+      let other = writes-decided q in
+      (one .0 ∙ sym (other .0), one .1 ∙ sym (other .1))
 
-  module _ (y : Yielded v r) (agrees : length body ≡ bodyLength r) where
-    can : writable v r (length body) ≡ true
-    can = yielded-writable v r (length body) y agrees
-
-    pub room-refused : length buffer < at + length (tokensOf v r body) →
-        (writing (tokenOf v) r body buffer at ≡ Refused (refusal ROOM 0)) × (bufferAfter (tokenOf v) r body buffer at ≡ buffer)
-    room-refused h =
-        let e = refused-room v r body buffer at can (lt-leb (at + length (tokensOf v r body)) (length buffer) h) in
-        (in-version ∙ e .0, after-version ∙ e .1)
-
-    pub is-written : at + length (tokensOf v r body) ≤ length buffer →
-        (writing (tokenOf v) r body buffer at ≡ Wrote (at + length (tokensOf v r body)))
-        × (bufferAfter (tokenOf v) r body buffer at ≡ pasted buffer at (tokensOf v r body))
-    is-written h =
-        let e = written v r body buffer at can (le-leb (at + length (tokensOf v r body)) (length buffer) h) in
-        (in-version ∙ e .0, after-version ∙ e .1)
-
--- the other way: a yes says that the record is yielded, that the body's length agrees and that the tokens fit
-pub record Fits (v : Version) (r : Record) (body buffer : List ℕ) (at next : ℕ) : Type 0 where
-  pub can : writable v r (length body) ≡ true
-  pub yielded : Yielded v r
-  pub agrees : length body ≡ bodyLength r
+-- what a yes says of the version, the record, the body, the buffer and the next place
+pub record SaidYes (version : ℕ) (r : Record) (body buffer : List ℕ) (at next : ℕ) (after : List ℕ) : Type 0 where
+  pub v : Version
+  pub is-named : named version ≡ Known v
+  pub can : Writable v r body
   pub inside : at + length (tokensOf v r body) ≤ length buffer
   pub next-is : at + length (tokensOf v r body) ≡ next
+  pub after-is : pasted buffer at (tokensOf v r body) ≡ after
 
-module _ (v : Version) (r : Record) (body buffer : List ℕ) (at next : ℕ) where
-  fits-by : (w f : Bool) → writable v r (length body) ≡ w → leb (at + length (tokensOf v r body)) (length buffer) ≡ f →
-      writingIn v r body buffer at ≡ Wrote next → Fits v r body buffer at next
-  fits-by true true w f e =
-      let y = writable-yielded v r (length body) w in
-      let same = sym (written v r body buffer at w f .0) ∙ e in
-      record { can = w; yielded = y .0; agrees = y .1; inside = leb-true (at + length (tokensOf v r body)) (length buffer) f; next-is = cc }
-  fits-by true false w f e =
-      let same = sym (refused-room v r body buffer at w f .0) ∙ e in
-      let z : _≡_ {A = ℕ} 0 1 = cc in absurd (omega arith)
-  fits-by false f w g e =
-      let same = sym (refused-record v r body buffer at w .0) ∙ e in
-      let z : _≡_ {A = ℕ} 0 1 = cc in absurd (omega arith)
+module _ (version : ℕ) (r : Record) (body buffer : List ℕ) (at next : ℕ) where
+  yes-by : {told : ToldWriting} {after : List ℕ} → Writes version r body buffer at told after → told ≡ toldWriting (Wrote next) →
+      SaidYes version r body buffer at next after
+  yes-by (unnamed n) e = let number = ap (λ (t : ToldWriting). t .number) e in absurd (omega arith)
+  yes-by (unwritable n w) e = let number = ap (λ (t : ToldWriting). t .number) e in absurd (omega arith)
+  yes-by (cramped n w h) e = let number = ap (λ (t : ToldWriting). t .number) e in absurd (omega arith)
+  yes-by (written {v} n w h) e =
+      record { v = v; is-named = n; can = w; inside = h; next-is = ap (λ (t : ToldWriting). t .next) e; after-is = refl }
 
-  pub written-fits : writingIn v r body buffer at ≡ Wrote next → Fits v r body buffer at next
-  written-fits e = fits-by (writable v r (length body)) (leb (at + length (tokensOf v r body)) (length buffer)) refl refl e
+  pub said-yes : {after : List ℕ} → Writes version r body buffer at (toldWriting (Wrote next)) after → SaidYes version r body buffer at next after
+  said-yes w = yes-by w refl

@@ -1,12 +1,13 @@
 -- The writer's promise leaves one answer and one content of the buffer, refusals too.
-use mathlib.Core.Path.{_≡_, sym, ap, _∙_}
+use mathlib.Core.Path.{_≡_, sym, ap}
 use mathlib.Core.List.{List}
 use Prim.Native.Nat.{ℕ}
 use Rattle.records.specs.declared.Record.{Record}
 use Rattle.paper.proofs.OneToOne.{same-refusal, no-reason-zero}
 use Rattle.writing.specs.declared.Written.{Written}
 use Rattle.writing.specs.declared.Written.the-variants.{Wrote, Refused}
-use Rattle.writing.specs.Writing.{writing, bufferAfter, ToldWriting, toldWriting}
+use Rattle.writing.specs.Writing.{ToldWriting, toldWriting, Writes}
+use Rattle.writing.proofs.Exactly.{one-writing}
 
 -- what a writing tells is that writing's alone
 pub told-one : (a b : Written) → toldWriting a ≡ toldWriting b → a ≡ b
@@ -19,9 +20,8 @@ told-one (Refused r) (Refused s) e =
 module _ (version : ℕ) (r : Record) (body buffer : List ℕ) (at : ℕ) where
   -- what `write` promises of its answer and of the buffer as it leaves it
   pub Promised : Written → List ℕ → Type 0
-  Promised answer after =
-      (toldWriting answer ≡ toldWriting (writing version r body buffer at)) × (after ≡ bufferAfter version r body buffer at)
+  Promised answer after = Writes version r body buffer at (toldWriting answer) after
 
   pub one-answer : (a b : Written) (x y : List ℕ) → Promised a x → Promised b y → (a ≡ b) × (x ≡ y)
   unfolding Promised
-  one-answer a b x y p q = (told-one a b (p .0 ∙ sym (q .0)), p .1 ∙ sym (q .1))
+  one-answer a b x y p q = let one = one-writing version r body buffer at p q in (told-one a b (one .0), one .1)

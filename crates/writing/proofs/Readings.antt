@@ -8,7 +8,7 @@ use lib.Dec.{eqb, leb, ltb}
 use lib.ListN.{length, drop}
 use borrow.Author.Tests.{leb-true, ltb-true, le-leb, lt-ltb}
 use Rattle.paper.specs.Notation.{pick}
-use Rattle.paper.specs.Versions.{tokenOf, named}
+use Rattle.paper.specs.Versions.{versionToken, named}
 use Rattle.paper.specs.Numbers.{refusal}
 use Rattle.paper.specs.InstructionToken.{commentOpcode}
 use Rattle.paper.specs.Instruction.{Head, broken, end, comment, dcl, operation, head, judged}
@@ -28,7 +28,7 @@ use Rattle.reader.specs.declared.Reading.{Reading}
 use Rattle.reader.specs.Reading.{refused, got, onJudged, readingAt, reading}
 use Rattle.writer.specs.Tokens.{bodyOn, bodyOf}
 
-pub known : (v : Version) → named (tokenOf v) ≡ Known v
+pub known : (v : Version) → named (versionToken v) ≡ Known v
 known V2 = refl
 known V3 = refl
 known P2 = refl
@@ -73,13 +73,13 @@ module _ (v : Version) (tokens : List ℕ) (at next : ℕ) (r : Record) where
   by-length true l e = by-place (ltb at (length tokens)) (leb-true (length tokens) mostTokens l) refl e
   by-length false l e = never-got (refused LENGTH 0) next r (ReadFrom v tokens at next r) (refusal LENGTH 0) refl e
 
-  pub read-from : reading (tokenOf v) tokens at ≡ got next r → ReadFrom v tokens at next r
+  pub read-from : reading (versionToken v) tokens at ≡ got next r → ReadFrom v tokens at next r
   unfolding reading
   read-from e = by-length (leb (length tokens) mostTokens) refl (rw (known v) at e)
 
 -- from place 0
 pub reads-own : (v : Version) (tokens : List ℕ) {size : ℕ} {class : Class} → length tokens ≤ mostTokens → 0 < length tokens → judged v tokens ≡ Lawful size class →
-    reading (tokenOf v) tokens 0 ≡ got (0 + size + 1) (recordOf v tokens)
+    reading (versionToken v) tokens 0 ≡ got (0 + size + 1) (recordOf v tokens)
 unfolding reading readingAt
 reads-own v tokens few some j = rw (le-leb (length tokens) mostTokens few, known v, lt-ltb 0 (length tokens) some, j)
 

@@ -7,13 +7,11 @@ use native.Mathlib.Omega.{arith}
 use lib.Dec.{eqb, leb}
 use lib.ListN.{length, take, drop}
 use lib.Seq.{take-at, drop-at, length-take-le}
-use borrow.Author.Tests.{eqb-true, leb-true, le-leb}
+use borrow.Author.Tests.{eqb-true, leb-true}
 use Rattle.paper.specs.Notation.{pick}
-use Rattle.paper.specs.Versions.{tokenOf, named}
+use Rattle.paper.specs.Versions.{versionToken}
 use Rattle.paper.specs.InstructionToken.{commentOpcode}
 use Rattle.paper.specs.declared.Version.{Version}
-use Rattle.paper.specs.declared.Named.{Named}
-use Rattle.paper.specs.declared.Named.the-variants.{Known, Unknown}
 use Rattle.paper.proofs.Below.{both-left, both-right}
 use Rattle.cutting.proofs.OwnTokens.{good-within}
 use Rattle.records.specs.declared.Record.{Record}
@@ -23,17 +21,18 @@ use Rattle.writer.specs.Tokens.{Words, commentToken, tokensOf}
 use Rattle.writer.proofs.ReadBack.{comment-judged, comment-read}
 use Rattle.writing.specs.declared.Written.the-variants.{Wrote}
 use Rattle.writing.specs.Buffer.{wordsOf, pasted}
-use Rattle.writing.specs.Writing.{longestComment, yieldedComment, readsBack, writable, writingOn, contentOn, writing, bufferAfter}
+use Rattle.writing.specs.Writing.{Writable, toldWriting, Writes}
+use Rattle.writing.specs.Decided.{longestComment, yieldedComment, readsBack, writable}
 use Rattle.writing.proofs.Same.{record-equal}
 use Rattle.writing.proofs.Readings.{read-from, reads-own}
-use Rattle.writing.proofs.Yielding.{are-words, given, own-tokens, tokens-are-words}
-use Rattle.writing.proofs.Answers.{version-named, written, comment-tokens, bodiless}
-use Rattle.writing.proofs.Exactly.{written-fits}
+use Rattle.writing.proofs.Yielding.{are-words, given, own-tokens, tokens-are-words, writable-passes}
+use Rattle.writing.proofs.Answers.{version-named, comment-tokens, bodiless}
+use Rattle.writing.proofs.Exactly.{SaidYes, said-yes}
 
 module _ (v : Version) (r : Record) where
   -- a comment
   comment-back : (body : List ℕ) → r .opcode ≡ commentOpcode → length body ≡ r .length → yieldedComment r ≡ true →
-      reading (tokenOf v) (tokensOf v r body) 0 ≡ got (length (tokensOf v r body)) r
+      reading (versionToken v) (tokensOf v r body) 0 ≡ got (length (tokensOf v r body)) r
   comment-back body o agrees y =
       let short = leb-true (r .length) longestComment (both-left (leb (r .length) longestComment) _ y) in
       let same = record-equal (commentRecord (r .length)) r (both-right (leb (r .length) longestComment) _ y) in
@@ -47,7 +46,7 @@ module _ (v : Version) (r : Record) where
   whole : (tokens : List ℕ) (n : ℕ) → tokens ≡ take n tokens → n ≤ length tokens → n ≡ length tokens
   whole tokens n e h = omega (arith, ap length e, length-take-le n tokens h)
 
-  reads-whole : (next : ℕ) → eqb (r .opcode) commentOpcode ≡ false → Words (tokensOf v r []) → reading (tokenOf v) (tokensOf v r []) 0 ≡ got next r →
+  reads-whole : (next : ℕ) → eqb (r .opcode) commentOpcode ≡ false → Words (tokensOf v r []) → reading (versionToken v) (tokensOf v r []) 0 ≡ got next r →
       next ≡ length (tokensOf v r [])
   reads-whole next n words read =
       let f = read-from v (tokensOf v r []) 0 next r read in
@@ -55,25 +54,25 @@ module _ (v : Version) (r : Record) where
       let long = whole (tokensOf v r []) (suc (f .size)) (own-tokens v (tokensOf v r []) 0 next r words f n) there in
       omega (arith, f .next-is, long)
 
-  other-back : eqb (r .opcode) commentOpcode ≡ false → readsBack v r ≡ true → reading (tokenOf v) (tokensOf v r []) 0 ≡ got (length (tokensOf v r [])) r
+  other-back : eqb (r .opcode) commentOpcode ≡ false → readsBack v r ≡ true → reading (versionToken v) (tokensOf v r []) 0 ≡ got (length (tokensOf v r [])) r
   unfolding readsBack
   other-back n y =
       let same = tokens-are-words v r n y in
-      let g = given (reading (tokenOf v) (wordsOf (tokensOf v r [])) 0) r y in
-      let read : reading (tokenOf v) (tokensOf v r []) 0 ≡ got (g .next) r = ap (λ tokens. reading (tokenOf v) tokens 0) (sym same) ∙ g .is in
+      let g = given (reading (versionToken v) (wordsOf (tokensOf v r [])) 0) r y in
+      let read : reading (versionToken v) (tokensOf v r []) 0 ≡ got (g .next) r = ap (λ tokens. reading (versionToken v) tokens 0) (sym same) ∙ g .is in
       read ∙ ap (λ k. got k r) (reads-whole (g .next) n (rw same at (are-words (tokensOf v r []))) read)
 
   back-by : (body : List ℕ) (isComment : Bool) → eqb (r .opcode) commentOpcode ≡ isComment →
       pick isComment (eqb (length body) (r .length) && yieldedComment r) (eqb (length body) 0 && readsBack v r) ≡ true →
-      reading (tokenOf v) (tokensOf v r body) 0 ≡ got (length (tokensOf v r body)) r
+      reading (versionToken v) (tokensOf v r body) 0 ≡ got (length (tokensOf v r body)) r
   back-by body true c h =
       comment-back body (eqb-true (r .opcode) commentOpcode c) (eqb-true (length body) (r .length) (both-left (eqb (length body) (r .length)) _ h)) (both-right (eqb (length body) (r .length)) _ h)
   back-by body false c h = rw (bodiless v r c body) (other-back c (both-right (eqb (length body) 0) _ h))
 
   -- the tokens of a record that can be written
-  pub tokens-read-back : (body : List ℕ) → writable v r (length body) ≡ true → reading (tokenOf v) (tokensOf v r body) 0 ≡ got (length (tokensOf v r body)) r
+  pub tokens-read-back : (body : List ℕ) → Writable v r body → reading (versionToken v) (tokensOf v r body) 0 ≡ got (length (tokensOf v r body)) r
   unfolding writable
-  tokens-read-back body w = back-by body (eqb (r .opcode) commentOpcode) refl w
+  tokens-read-back body w = back-by body (eqb (r .opcode) commentOpcode) refl (writable-passes v r body w)
 
 -- the tokens between the place and the next place are the record's
 pub between : (buffer tokens : List ℕ) (at : ℕ) → at + length tokens ≤ length buffer → take (at + length tokens - at) (drop at (pasted buffer at tokens)) ≡ tokens
@@ -83,18 +82,13 @@ between buffer tokens at h =
     rw (drop-at (take at buffer) (tokens ++ drop (at + length tokens) buffer) at (length-take-le at buffer (omega arith)), n)
     (take-at tokens (drop (at + length tokens) buffer) (length tokens) refl)
 
-module _ (version : ℕ) (r : Record) (body buffer : List ℕ) (at next : ℕ) where
-  by-version : (n : Named) → named version ≡ n → writingOn n r body buffer at ≡ Wrote next →
-      reading version (take (next - at) (drop at (contentOn n r body buffer at))) 0 ≡ got (next - at) r
-  by-version (Known v) n e =
-      let f = written-fits v r body buffer at next e in
-      let tokens = written v r body buffer at (f .can) (le-leb (at + length (tokensOf v r body)) (length buffer) (f .inside)) .1 in
-      let count : at + length (tokensOf v r body) - at ≡ length (tokensOf v r body) = omega arith in
-      rw (version-named version v n, ← f .next-is, tokens, between buffer (tokensOf v r body) at (f .inside), count) (tokens-read-back v r body (f .can))
-  by-version Unknown n e = let z : _≡_ {A = ℕ} 0 1 = cc in absurd (omega arith)
+module _ (version : ℕ) (r : Record) (body buffer : List ℕ) (at next : ℕ) {after : List ℕ} where
+  yes-back : SaidYes version r body buffer at next after → reading version (take (next - at) (drop at after)) 0 ≡ got (next - at) r
+  yes-back y =
+      let count : at + length (tokensOf (y .v) r body) - at ≡ length (tokensOf (y .v) r body) = omega arith in
+      rw (version-named version (y .v) (y .is-named), ← y .next-is, ← y .after-is, between buffer (tokensOf (y .v) r body) at (y .inside), count)
+      (tokens-read-back (y .v) r body (y .can))
 
   -- what the writer wrote, read alone from place 0, is the record, and nothing is left over
-  pub reads-back : writing version r body buffer at ≡ Wrote next →
-      reading version (take (next - at) (drop at (bufferAfter version r body buffer at))) 0 ≡ got (next - at) r
-  unfolding writing bufferAfter
-  reads-back e = by-version (named version) refl e
+  pub reads-back : Writes version r body buffer at (toldWriting (Wrote next)) after → reading version (take (next - at) (drop at after)) 0 ≡ got (next - at) r
+  reads-back w = yes-back (said-yes version r body buffer at next w)

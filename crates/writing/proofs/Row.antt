@@ -10,55 +10,57 @@ use lib.Seq.{drop-drop, getD-drop}
 use borrow.Author.Tests.{eq-eqb, ne-eqb}
 use borrow.Rule.Slice.PartMut.{putMid}
 use Rattle.paper.specs.Notation.{pick}
-use Rattle.paper.specs.OperandTokens.{raw, predicate, withPredicate}
 use Rattle.paper.proofs.Below.{both-left, both-right}
-use Rattle.opcodes.specs.Places.{decoded}
+use Rattle.paper.specs.Places.{Place, predicate, isRaw, isPredicate}
+use Rattle.paper.specs.InstructionToken.{withPredicate}
+use Rattle.opcodes.specs.Places.{placeBy, decoded}
 use Rattle.opcodes.proofs.Laws.{decoded-zero, decoded-step}
 use Rattle.records.specs.declared.Operand.{Operand}
-use Rattle.records.specs.Record.{noOperand, declaredPlaces}
+use Rattle.records.specs.Record.{noOperand}
 use Rattle.writer.specs.Tokens.{operandToken, relativeToken, operandTokens, rowTokens}
-use Rattle.writer.proofs.Operands.{not-true, unpredicated}
+use Rattle.opcodes.proofs.Laws.{unpredicated}
+use Rattle.writer.proofs.Operands.{not-true}
 use Rattle.writing.specs.Buffer.{wordsOf, pasted, onFront}
 use Rattle.writing.specs.Row.{orderTokens, predicateTokens, behindTokens}
 use Rattle.writing.proofs.Paste.{words-length, words-append, part-end, part-front, pasted-on, pasted-front, length-pasted, length-front}
 
 -- one operand
-module _ (place : ℕ) (operand : Operand) where
-  pub raw-operand : place ≡ raw → operandTokens place operand ≡ operand .raw ∷ []
+module _ (place : Place) (operand : Operand) where
+  pub raw-operand : isRaw place ≡ true → operandTokens place operand ≡ operand .raw ∷ []
   unfolding operandTokens
-  raw-operand e = rw (eq-eqb place raw e)
+  raw-operand e = rw e
 
-  pub two-operand : (place ≡ raw → ⊥) → operand .relative ≡ 1 → operandTokens place operand ≡ operandToken operand ∷ (relativeToken operand ∷ [])
+  pub two-operand : isRaw place ≡ false → operand .relative ≡ 1 → operandTokens place operand ≡ operandToken operand ∷ (relativeToken operand ∷ [])
   unfolding operandTokens
-  two-operand n e = rw (ne-eqb place raw n, eq-eqb (operand .relative) 1 e)
+  two-operand n e = rw (n, eq-eqb (operand .relative) 1 e)
 
-  pub one-operand : (place ≡ raw → ⊥) → (operand .relative ≡ 1 → ⊥) → operandTokens place operand ≡ operandToken operand ∷ []
+  pub one-operand : isRaw place ≡ false → (operand .relative ≡ 1 → ⊥) → operandTokens place operand ≡ operandToken operand ∷ []
   unfolding operandTokens
-  one-operand n e = rw (ne-eqb place raw n, ne-eqb (operand .relative) 1 e)
+  one-operand n e = rw (n, ne-eqb (operand .relative) 1 e)
 
-  bounded : (isRaw brings : Bool) (a b c : ℕ) →
-      length (pick isRaw (a ∷ []) (b ∷ pick brings (c ∷ []) [])) ≤ 2
+  bounded : (unread brings : Bool) (a b c : ℕ) →
+      length (pick unread (a ∷ []) (b ∷ pick brings (c ∷ []) [])) ≤ 2
   bounded true brings a b c = omega arith
   bounded false true a b c = omega arith
   bounded false false a b c = omega arith
 
   pub operand-few : length (operandTokens place operand) ≤ 2
   unfolding operandTokens
-  operand-few = bounded (eqb place raw) (eqb (operand .relative) 1) (operand .raw) (operandToken operand) (relativeToken operand)
+  operand-few = bounded (isRaw place) (eqb (operand .relative) 1) (operand .raw) (operandToken operand) (relativeToken operand)
 
-  has-some : (isRaw brings : Bool) (a b c : ℕ) → 1 ≤ length (pick isRaw (a ∷ []) (b ∷ pick brings (c ∷ []) []))
+  has-some : (unread brings : Bool) (a b c : ℕ) → 1 ≤ length (pick unread (a ∷ []) (b ∷ pick brings (c ∷ []) []))
   has-some true brings a b c = omega arith
   has-some false true a b c = omega arith
   has-some false false a b c = omega arith
 
   pub operand-some : 1 ≤ length (operandTokens place operand)
   unfolding operandTokens
-  operand-some = has-some (eqb place raw) (eqb (operand .relative) 1) (operand .raw) (operandToken operand) (relativeToken operand)
+  operand-some = has-some (isRaw place) (eqb (operand .relative) 1) (operand .raw) (operandToken operand) (relativeToken operand)
 
 -- one place after the other
 module _ (left : ℕ) (fits : left < 2 ^ 64) (some : left ≡ 0 → ⊥) (held : ℕ) (operands : List Operand) where
   pub order-step : orderTokens (decoded left) (drop held operands) ≡
-      operandTokens (left % 128) (getD operands held noOperand) ++ orderTokens (decoded (left / 128)) (drop (held + 1) operands)
+      operandTokens (placeBy (left % 128)) (getD operands held noOperand) ++ orderTokens (decoded (left / 128)) (drop (held + 1) operands)
   unfolding orderTokens
   order-step =
       let same : held + 0 ≡ held = omega arith in
@@ -71,13 +73,13 @@ pub order-none : (left : ℕ) (operands : List Operand) → left ≡ 0 → order
 unfolding orderTokens
 order-none left operands e = rw (e, decoded-zero)
 
-pub order-few : (places : List ℕ) (operands : List Operand) → length (orderTokens places operands) ≤ 2 * length places
+pub order-few : (places : List Place) (operands : List Operand) → length (orderTokens places operands) ≤ 2 * length places
 unfolding orderTokens
 order-few [] operands = omega arith
 order-few (place ∷ places) operands =
     omega (arith, operand-few place (getD operands 0 noOperand), order-few places (drop 1 operands), length-append (operandTokens place (getD operands 0 noOperand)) (orderTokens places (drop 1 operands)))
 
-pub behind-few : (places : List ℕ) (predicated : Bool) (operands : List Operand) → length (behindTokens places predicated operands) ≤ 2 * length places + 2
+pub behind-few : (places : List Place) (predicated : Bool) (operands : List Operand) → length (behindTokens places predicated operands) ≤ 2 * length places + 2
 unfolding behindTokens
 behind-few places true operands =
     omega (arith, order-few places operands, operand-few predicate (getD operands 5 noOperand), length-append (orderTokens places operands) (operandTokens predicate (getD operands 5 noOperand)))
@@ -85,55 +87,51 @@ behind-few places false operands =
     omega (arith, order-few places operands, length-append (orderTokens places operands) [])
 
 -- as the record's tokens have them
-pub row-order : (places : List ℕ) (predicated : Bool) (operands : List Operand) (p : Operand) → unpredicated places ≡ true →
+pub row-order : (places : List Place) (predicated : Bool) (operands : List Operand) (p : Operand) → unpredicated places ≡ true →
     rowTokens (withPredicate predicated places) operands p ≡ orderTokens places operands ++ pick predicated (operandTokens predicate p) []
 unfolding rowTokens orderTokens
 row-order [] true operands p u = rw append-nil
 row-order [] false operands p u = refl
 row-order (place ∷ places) predicated operands p u =
     rw (
-      not-true (eqb place predicate) (both-left (not (eqb place predicate)) _ u),
-      row-order places predicated (drop 1 operands) p (both-right (not (eqb place predicate)) _ u),
+      not-true (isPredicate place) (both-left (not (isPredicate place)) _ u),
+      row-order places predicated (drop 1 operands) p (both-right (not (isPredicate place)) _ u),
       append-assoc (operandTokens place (getD operands 0 noOperand)),
     )
-
-pub row-declared : (operands : List Operand) (p : Operand) → rowTokens declaredPlaces operands p ≡ orderTokens declaredPlaces operands
-unfolding rowTokens orderTokens
-row-declared operands p = refl
 
 -- one place, written into the remainder
 module _ (left : ℕ) (fits : left < 2 ^ 64) (some : left ≡ 0 → ⊥) (held : ℕ) (operands : List Operand) (at : ℕ) (room : List ℕ)
     (inside : at + length (orderTokens (decoded left) (drop held operands)) ≤ length room) where
-  pub at-on : at + length (operandTokens (left % 128) (getD operands held noOperand)) + length (orderTokens (decoded (left / 128)) (drop (held + 1) operands)) ≡
+  pub at-on : at + length (operandTokens (placeBy (left % 128)) (getD operands held noOperand)) + length (orderTokens (decoded (left / 128)) (drop (held + 1) operands)) ≡
       at + length (orderTokens (decoded left) (drop held operands))
   at-on =
-      omega (arith, ap length (order-step left fits some held operands), length-append (operandTokens (left % 128) (getD operands held noOperand)) (orderTokens (decoded (left / 128)) (drop (held + 1) operands)))
+      omega (arith, ap length (order-step left fits some held operands), length-append (operandTokens (placeBy (left % 128)) (getD operands held noOperand)) (orderTokens (decoded (left / 128)) (drop (held + 1) operands)))
 
-  pub operand-fits : length (operandTokens (left % 128) (getD operands held noOperand)) ≤ length (take (length room - at) (drop at room))
+  pub operand-fits : length (operandTokens (placeBy (left % 128)) (getD operands held noOperand)) ≤ length (take (length room - at) (drop at room))
   operand-fits = rw (part-end at room, length-drop at room) (omega (arith, at-on))
 
-  module _ (last : List ℕ) (n : ℕ) (sized : n ≡ length (operandTokens (left % 128) (getD operands held noOperand)))
-      (put : last ≡ onFront (take (length room - at) (drop at room)) (wordsOf (operandTokens (left % 128) (getD operands held noOperand)))) where
-    room-is : putMid at (length room - at) room last ≡ pasted room at (wordsOf (operandTokens (left % 128) (getD operands held noOperand)))
-    room-is = part-front room (wordsOf (operandTokens (left % 128) (getD operands held noOperand))) last at (omega arith) put
+  module _ (last : List ℕ) (n : ℕ) (sized : n ≡ length (operandTokens (placeBy (left % 128)) (getD operands held noOperand)))
+      (put : last ≡ onFront (take (length room - at) (drop at room)) (wordsOf (operandTokens (placeBy (left % 128)) (getD operands held noOperand)))) where
+    room-is : putMid at (length room - at) room last ≡ pasted room at (wordsOf (operandTokens (placeBy (left % 128)) (getD operands held noOperand)))
+    room-is = part-front room (wordsOf (operandTokens (placeBy (left % 128)) (getD operands held noOperand))) last at (omega arith) put
 
-    long : length (wordsOf (operandTokens (left % 128) (getD operands held noOperand))) ≡ n
-    long = words-length (operandTokens (left % 128) (getD operands held noOperand)) ∙ sym sized
+    long : length (wordsOf (operandTokens (placeBy (left % 128)) (getD operands held noOperand))) ≡ n
+    long = words-length (operandTokens (placeBy (left % 128)) (getD operands held noOperand)) ∙ sym sized
 
     pub room-length : length (putMid at (length room - at) room last) ≡ length room
     room-length =
         ap length room-is
-        ∙ length-pasted room (wordsOf (operandTokens (left % 128) (getD operands held noOperand))) at (omega (arith, at-on, long))
+        ∙ length-pasted room (wordsOf (operandTokens (placeBy (left % 128)) (getD operands held noOperand))) at (omega (arith, at-on, long))
 
     pub room-on : pasted (putMid at (length room - at) room last) (at + n) (wordsOf (orderTokens (decoded (left / 128)) (drop (held + 1) operands))) ≡
         pasted room at (wordsOf (orderTokens (decoded left) (drop held operands)))
     room-on =
         let rest = words-length (orderTokens (decoded (left / 128)) (drop (held + 1) operands)) in
-        rw (room-is, ← long, order-step left fits some held operands, words-append (operandTokens (left % 128) (getD operands held noOperand)))
-        (pasted-on room (wordsOf (operandTokens (left % 128) (getD operands held noOperand))) (wordsOf (orderTokens (decoded (left / 128)) (drop (held + 1) operands))) at (omega (arith, at-on, long)))
+        rw (room-is, ← long, order-step left fits some held operands, words-append (operandTokens (placeBy (left % 128)) (getD operands held noOperand)))
+        (pasted-on room (wordsOf (operandTokens (placeBy (left % 128)) (getD operands held noOperand))) (wordsOf (orderTokens (decoded (left / 128)) (drop (held + 1) operands))) at (omega (arith, at-on, long)))
 
 -- the predicate, written behind the row
-module _ (places : List ℕ) (operands : List Operand) where
+module _ (places : List Place) (operands : List Operand) where
   pub behind-true : behindTokens places true operands ≡ orderTokens places operands ++ operandTokens predicate (getD operands 5 noOperand)
   unfolding behindTokens
   behind-true = refl

@@ -7,7 +7,7 @@ use lib.Dec.{leb}
 use lib.ListN.{length, drop, getD, length-append, length-drop, drop-of-length-le}
 use lib.Seq.{take-length, length-take-le}
 use borrow.Author.Tests.{leb-true}
-use Rattle.paper.specs.Versions.{tokenOf}
+use Rattle.paper.specs.Versions.{versionToken}
 use Rattle.paper.specs.InstructionToken.{opcodeOf}
 use Rattle.paper.specs.Instruction.{Head, broken, end, comment, dcl, operation, head, onHead, judged}
 use Rattle.paper.specs.Blocks.{classOf}
@@ -29,12 +29,12 @@ use Rattle.writer.proofs.Operands.{words-drop}
 use Rattle.writer.proofs.WrittenBack.{written-back}
 use Rattle.writing.specs.declared.Written.the-variants.{Wrote}
 use Rattle.writing.specs.Buffer.{pasted, onFront}
-use Rattle.writing.specs.Writing.{Yielded, bodyLength, writing, bufferAfter}
-use Rattle.writing.specs.InOrder.{piecesOf, filled, writingAll}
+use Rattle.writing.specs.Writing.{Yielded, bodyLength, ToldWriting, toldWriting, Writes, written}
+use Rattle.writing.specs.InOrder.{Piece, piecesOf, WritesAll, all-written, next-written}
 use Rattle.writing.proofs.Paste.{pasted-on, pasted-front, length-pasted}
-use Rattle.writing.proofs.Readings.{reads-own}
+use Rattle.writing.proofs.Readings.{known, reads-own}
 use Rattle.writing.proofs.Answers.{version-named}
-use Rattle.writing.proofs.Exactly.{is-written}
+use Rattle.writing.proofs.Exactly.{one-writing}
 
 -- the body that was read is as long as the record says
 module _ (v : Version) (first : ℕ) (rest : List ℕ) {size : ℕ} {class : Class} where
@@ -68,12 +68,11 @@ module _ (v : Version) (first : ℕ) (rest : List ℕ) {class : Class} (words : 
       }
 
   chunk-written : (buffer : List ℕ) (at : ℕ) → at + suc (length rest) ≤ length buffer →
-      (writing (tokenOf v) (recordOf v (first ∷ rest)) (bodyOf v (first ∷ rest)) buffer at ≡ Wrote (at + suc (length rest)))
-      × (bufferAfter (tokenOf v) (recordOf v (first ∷ rest)) (bodyOf v (first ∷ rest)) buffer at ≡ pasted buffer at (first ∷ rest))
+      Writes (versionToken v) (recordOf v (first ∷ rest)) (bodyOf v (first ∷ rest)) buffer at (toldWriting (Wrote (at + suc (length rest)))) (pasted buffer at (first ∷ rest))
   chunk-written buffer at h =
-      rw chunk-back at
-      (is-written v (recordOf v (first ∷ rest)) (bodyOf v (first ∷ rest)) buffer at chunk-yielded (body-agrees v first rest alone)
-      (rw chunk-back h))
+      let own : Writes (versionToken v) (recordOf v (first ∷ rest)) (bodyOf v (first ∷ rest)) buffer at _ _ =
+      written (known v) (record { yielded = chunk-yielded; agrees = body-agrees v first rest alone }) (rw chunk-back h) in
+      rw chunk-back at own
 
 words-front : (a b : List ℕ) → Words (a ++ b) → Words a
 unfolding Words
@@ -89,21 +88,27 @@ words-behind (x ∷ a) b words k = words-behind a b (λ j. words (suc j)) k
 -- all of them
 pub chunks-written-back : {v : Version} {chunks : List (List ℕ)} {classes : List Class} → Chunks v chunks classes → Words (joined chunks) → length (joined chunks) ≤ mostTokens →
     (buffer : List ℕ) (at : ℕ) → at + length (joined chunks) ≤ length buffer →
-    writingAll (tokenOf v) (piecesOf v chunks) buffer at ≡ filled (pasted buffer at (joined chunks)) (at + length (joined chunks))
-unfolding writingAll
+    WritesAll (versionToken v) (piecesOf v chunks) buffer at (pasted buffer at (joined chunks)) (at + length (joined chunks))
 chunks-written-back {v} (last {first} {rest} alone) words few buffer at h =
     let same : rest ++ [] ≡ rest = append-nil rest in
-    let w = chunk-written v first rest (rw same at words) (rw same at few) alone buffer at (rw same at h) in
-    rw (w .0, w .1, same)
+    rw same (next-written (chunk-written v first rest (rw same at words) (rw same at few) alone buffer at (rw same at h)) all-written)
 chunks-written-back {v} (next {first} {rest} {class} {chunks} alone n later) words few buffer at h =
     let long = length-append (first ∷ rest) (joined chunks) in
-    let w = chunk-written v first rest (words-front (first ∷ rest) (joined chunks) words) (omega arith) alone buffer at (omega arith) in
+    let one = chunk-written v first rest (words-front (first ∷ rest) (joined chunks) words) (omega arith) alone buffer at (omega arith) in
     let room = length-pasted buffer (first ∷ rest) at (omega arith) in
     let fits : at + suc (length rest) + length (joined chunks) ≤ length (pasted buffer at (first ∷ rest)) = rw room (omega arith) in
     let all = chunks-written-back later (words-behind (first ∷ rest) (joined chunks) words) (omega arith) (pasted buffer at (first ∷ rest)) (at + suc (length rest)) fits in
     let content = pasted-on buffer (first ∷ rest) (joined chunks) at (omega arith) in
     let place : at + suc (length rest) + length (joined chunks) ≡ at + length ((first ∷ rest) ++ joined chunks) = omega arith in
-    rw (w .0, w .1) (all ∙ (ap (λ b. filled b (at + suc (length rest) + length (joined chunks))) content ∙ ap (filled (pasted buffer at ((first ∷ rest) ++ joined chunks))) place))
+    next-written one (rw (content, place) at all)
+
+-- pieces are written in order in one way
+pub one-way : {version : ℕ} {pieces : List Piece} {buffer a b : List ℕ} {at m n : ℕ} →
+    WritesAll version pieces buffer at a m → WritesAll version pieces buffer at b n → (a ≡ b) × (m ≡ n)
+one-way all-written all-written = (refl, refl)
+one-way {version} (next-written {piece} {buffer = buffer} {at = at} w p) (next-written x q) =
+    let same = one-writing version (piece .instruction) (piece .body) buffer at x w in
+    one-way p (rw (ap (λ (t : ToldWriting). t .next) (same .0), same .1) at q)
 
 whole : (buffer tokens : List ℕ) → length buffer ≡ length tokens → onFront buffer tokens ≡ tokens
 unfolding onFront
@@ -115,16 +120,16 @@ whole buffer tokens e =
 -- into a buffer of just their length: the tokens again
 pub stream-written-back : (v : Version) (tokens : List ℕ) (chunks : List (List ℕ)) (classes : List Class) → Cutting v tokens chunks classes → Words tokens →
     length tokens ≤ mostTokens → (buffer : List ℕ) → length buffer ≡ length tokens →
-    writingAll (tokenOf v) (piecesOf v chunks) buffer 0 ≡ filled tokens (length tokens)
+    WritesAll (versionToken v) (piecesOf v chunks) buffer 0 tokens (length tokens)
 stream-written-back v tokens chunks classes (cut, is) words few buffer long =
     let all = chunks-written-back cut (rw is words) (rw is few) buffer 0 (rw is (omega arith)) in
     let at-end : 0 + length tokens ≡ length tokens = omega arith in
-    rw (is, pasted-front buffer tokens, at-end) at all ∙ ap (λ b. filled b (length tokens)) (whole buffer tokens long)
+    rw (is, pasted-front buffer tokens, at-end, whole buffer tokens long) at all
 
 -- an accepted stream: the records of its cutting, in order, give the tokens behind its version again
 pub accepted-written-back : (s : List ℕ) (n : ℕ) (accept : verdict s ≡ Accepted n) → Words s → (buffer : List ℕ) → length buffer ≡ length (drop 1 s) →
-    writingAll (getD s 0 0) (piecesOf (accepted-is-a-cutting s n accept .version) (accepted-is-a-cutting s n accept .chunks)) buffer 0
-    ≡ filled (drop 1 s) (length (drop 1 s))
+    WritesAll (getD s 0 0) (piecesOf (accepted-is-a-cutting s n accept .version) (accepted-is-a-cutting s n accept .chunks)) buffer 0
+    (drop 1 s) (length (drop 1 s))
 accepted-written-back s n accept words buffer long =
     let l = accepted-is-a-cutting s n accept in
     let few : length s ≤ mostTokens = leb-true (length s) mostTokens (both-right (leb 2 (length s)) (leb (length s) mostTokens) (l .isLong)) in

@@ -9,7 +9,7 @@ use lib.ListN.{length, take, drop, getD, length-take, length-drop}
 use lib.Seq.{take-all, length-take-le}
 use borrow.Author.Tests.{eqb-true, eq-eqb, leb-true, leb-false, le-leb}
 use Rattle.paper.specs.Notation.{pick}
-use Rattle.paper.specs.Versions.{tokenOf}
+use Rattle.paper.specs.Versions.{versionToken}
 use Rattle.paper.specs.InstructionToken.{opcodeOf, commentOpcode}
 use Rattle.paper.specs.Instruction.{Head, broken, end, comment, dcl, operation, head, onHead, judged}
 use Rattle.paper.specs.Blocks.{classOf}
@@ -35,7 +35,8 @@ use Rattle.writer.proofs.WrittenBack.{written-back}
 use Rattle.writer.proofs.ReadBack.{comment-judged, comment-read}
 use Rattle.writing.specs.Same.{sameRecord}
 use Rattle.writing.specs.Buffer.{wordsOf}
-use Rattle.writing.specs.Writing.{Yielded, bodyLength, longestComment, yieldedComment, isGot, gives, readsBack, writable}
+use Rattle.writing.specs.Writing.{Yielded, Writable}
+use Rattle.writing.specs.Decided.{longestComment, yieldedComment, isGot, gives, readsBack, writable}
 use Rattle.writing.proofs.Paste.{words-length}
 use Rattle.writing.proofs.Same.{record-equal, record-own as record-same}
 use Rattle.writing.proofs.Readings.{ReadFrom, read-from, reads-own, no-body}
@@ -182,7 +183,7 @@ comment-yielded v r h =
 back-yielded : (v : Version) (r : Record) → readsBack v r ≡ true → Yielded v r
 unfolding readsBack
 back-yielded v r h =
-    let g = given (reading (tokenOf v) (wordsOf (tokensOf v r [])) 0) r h in
+    let g = given (reading (versionToken v) (wordsOf (tokensOf v r [])) 0) r h in
     record { tokens = wordsOf (tokensOf v r []); at = 0; next = g .next; are-words = are-words (tokensOf v r []); read = g .is }
 
 -- what is written is what was tested: the tokens have 32 bits
@@ -196,29 +197,41 @@ taken-whole a b n e s = by (leb (length b) n) refl
 pub tokens-are-words : (v : Version) (r : Record) → eqb (r .opcode) commentOpcode ≡ false → readsBack v r ≡ true → wordsOf (tokensOf v r []) ≡ tokensOf v r []
 unfolding readsBack
 tokens-are-words v r n h =
-    let g = given (reading (tokenOf v) (wordsOf (tokensOf v r [])) 0) r h in
+    let g = given (reading (versionToken v) (wordsOf (tokensOf v r [])) 0) r h in
     let f = read-from v (wordsOf (tokensOf v r [])) 0 (g .next) r (g .is) in
     taken-whole (tokensOf v r []) (wordsOf (tokensOf v r [])) (suc (f .size)) (own-tokens v (wordsOf (tokensOf v r [])) 0 (g .next) r (are-words (tokensOf v r [])) f n)
     (words-length (tokensOf v r []))
 
 -- the test and the definition
-module _ (v : Version) (r : Record) (n : ℕ) where
+module _ (v : Version) (r : Record) (body : List ℕ) where
   to-by : (isComment : Bool) → eqb (r .opcode) commentOpcode ≡ isComment →
-      pick isComment (eqb n (r .length) && yieldedComment r) (eqb n 0 && readsBack v r) ≡ true → Yielded v r × (n ≡ pick isComment (r .length) 0)
-  to-by true c h = (comment-yielded v r (both-right (eqb n (r .length)) _ h), eqb-true n (r .length) (both-left (eqb n (r .length)) _ h))
-  to-by false c h = (back-yielded v r (both-right (eqb n 0) _ h), eqb-true n 0 (both-left (eqb n 0) _ h))
+      pick isComment (eqb (length body) (r .length) && yieldedComment r) (eqb (length body) 0 && readsBack v r) ≡ true →
+      Yielded v r × (length body ≡ pick isComment (r .length) 0)
+  to-by true c h =
+      (comment-yielded v r (both-right (eqb (length body) (r .length)) _ h), eqb-true (length body) (r .length) (both-left (eqb (length body) (r .length)) _ h))
+  to-by false c h = (back-yielded v r (both-right (eqb (length body) 0) _ h), eqb-true (length body) 0 (both-left (eqb (length body) 0) _ h))
 
-  from-by : (isComment : Bool) → eqb (r .opcode) commentOpcode ≡ isComment → Yielded v r → n ≡ pick isComment (r .length) 0 →
-      pick isComment (eqb n (r .length) && yieldedComment r) (eqb n 0 && readsBack v r) ≡ true
+  from-by : (isComment : Bool) → eqb (r .opcode) commentOpcode ≡ isComment → Yielded v r → length body ≡ pick isComment (r .length) 0 →
+      pick isComment (eqb (length body) (r .length) && yieldedComment r) (eqb (length body) 0 && readsBack v r) ≡ true
   from-by true c y e =
-      rw (eq-eqb n (r .length) e) (yields-comment v (y .tokens) (y .at) (y .next) r (y .are-words) (read-from v (y .tokens) (y .at) (y .next) r (y .read)) c)
+      rw (eq-eqb (length body) (r .length) e) (yields-comment v (y .tokens) (y .at) (y .next) r (y .are-words) (read-from v (y .tokens) (y .at) (y .next) r (y .read)) c)
   from-by false c y e =
-      rw (eq-eqb n 0 e) (yields-back v (y .tokens) (y .at) (y .next) r (y .are-words) (read-from v (y .tokens) (y .at) (y .next) r (y .read)) c)
+      rw (eq-eqb (length body) 0 e) (yields-back v (y .tokens) (y .at) (y .next) r (y .are-words) (read-from v (y .tokens) (y .at) (y .next) r (y .read)) c)
 
-  pub writable-yielded : writable v r n ≡ true → Yielded v r × (n ≡ bodyLength r)
+  pub passed-writable : writable v r (length body) ≡ true → Writable v r body
   unfolding writable
-  writable-yielded h = to-by (eqb (r .opcode) commentOpcode) refl h
+  passed-writable h = let it = to-by (eqb (r .opcode) commentOpcode) refl h in record { yielded = it .0; agrees = it .1 }
 
-  pub yielded-writable : Yielded v r → n ≡ bodyLength r → writable v r n ≡ true
+  pub writable-passes : Writable v r body → writable v r (length body) ≡ true
   unfolding writable
-  yielded-writable y e = from-by (eqb (r .opcode) commentOpcode) refl y e
+  writable-passes w = from-by (eqb (r .opcode) commentOpcode) refl (w .yielded) (w .agrees)
+
+  pub failed-unwritable : writable v r (length body) ≡ false → Writable v r body → ⊥
+  failed-unwritable h w = let passes = writable-passes w in let z : _≡_ {A = ℕ} 0 1 = cc in omega arith
+
+  pub unwritable-fails : (Writable v r body → ⊥) → writable v r (length body) ≡ false
+  unwritable-fails n = by (writable v r (length body)) refl
+    where
+      by : (b : Bool) → writable v r (length body) ≡ b → writable v r (length body) ≡ false
+      by true h = absurd (n (passed-writable h))
+      by false h = h

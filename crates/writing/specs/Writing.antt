@@ -1,31 +1,24 @@
 -- Document 01, "Records": "A comment's record holds its length; the writer is lent the body, whose length must agree (0 for any other
 -- record), else RECORD. .. The writer tests VERSION, RECORD, then ROOM; only the named tokens change." RECORD: "record is none that reading
--- yields in this version".
-use Prim.Native.Nat.{ℕ, _+_}
+-- yields in this version". ROOM: "what is to be written does not fit". "A refusal writes nothing into a lent buffer."
+use Prim.Native.Nat.{ℕ, _+_, _≤_, _<_}
 use mathlib.Core.Path.{_≡_}
-use mathlib.Core.Bool.{Bool, true, false, _&&_}
-use mathlib.Core.List.{List, []}
-use lib.Dec.{eqb, leb}
+use mathlib.Core.List.{List}
+use lib.Dec.{eqb}
 use lib.ListN.{length}
 use Rattle.paper.specs.Notation.{pick}
-use Rattle.paper.specs.Versions.{tokenOf, named}
+use Rattle.paper.specs.Versions.{versionToken, named}
 use Rattle.paper.specs.Numbers.{numberOf, refusal}
 use Rattle.paper.specs.InstructionToken.{commentOpcode}
 use Rattle.paper.specs.declared.Version.{Version}
-use Rattle.paper.specs.declared.Named.{Named}
 use Rattle.paper.specs.declared.Named.the-variants.{Known, Unknown}
 use Rattle.paper.specs.declared.Reason.the-variants.{Version as VERSION, Room as ROOM, Record as RECORD}
 use Rattle.records.specs.declared.Record.{Record}
-use Rattle.records.specs.Record.{commentRecord}
-use Rattle.reader.specs.declared.Answer.{Answer}
-use Rattle.reader.specs.declared.Answer.the-variants.{Got, Refused as Unread}
-use Rattle.reader.specs.declared.Reading.{Reading}
 use Rattle.reader.specs.Reading.{got, reading}
 use Rattle.writer.specs.Tokens.{Words, tokensOf}
 use Rattle.writing.specs.declared.Written.{Written}
 use Rattle.writing.specs.declared.Written.the-variants.{Wrote, Refused}
-use Rattle.writing.specs.Same.{sameRecord}
-use Rattle.writing.specs.Buffer.{wordsOf, pasted}
+use Rattle.writing.specs.Buffer.{pasted}
 
 -- the record is one "that reading yields in this version": there are tokens and a place from which the reader gives it
 pub record Yielded (v : Version) (r : Record) : Type 0 where
@@ -33,65 +26,16 @@ pub record Yielded (v : Version) (r : Record) : Type 0 where
   pub at : ℕ
   pub next : ℕ
   pub are-words : Words tokens
-  pub read : reading (tokenOf v) tokens at ≡ got next r
+  pub read : reading (versionToken v) tokens at ≡ got next r
 
 -- how long the body must be that the writer is lent: "0 for any other record"
 abbrev pub bodyLength : Record → ℕ
 bodyLength r = pick (eqb (r .opcode) commentOpcode) (r .length) 0
 
--- the same as a test. A comment's record has nothing but its length, and the reader takes no more than 16,384 tokens.
-abbrev pub longestComment : ℕ
-longestComment = 16383
-
-abbrev pub yieldedComment : Record → Bool
-yieldedComment r = leb (r .length) longestComment && sameRecord (commentRecord (r .length)) r
-
--- any other record is yielded if its own tokens yield it
-abbrev pub isGot : Answer → Bool
-isGot (Got next) = true
-isGot (Unread r) = false
-
-abbrev pub gives : Reading → Record → Bool
-gives reading r = isGot (reading .answer) && sameRecord (reading .instruction) r
-
-unfoldable pub readsBack : Version → Record → Bool
-readsBack v r = gives (reading (tokenOf v) (wordsOf (tokensOf v r [])) 0) r
-
-unfoldable pub writable : Version → Record → ℕ → Bool
-writable v r n =
-    pick (eqb (r .opcode) commentOpcode) (eqb n (r .length) && yieldedComment r) (eqb n 0 && readsBack v r)
-
--- RECORD, then ROOM: a place past the buffer's end leaves no room either
-abbrev pub room : List ℕ → List ℕ → ℕ → Written
-room tokens buffer at =
-    pick (leb (at + length tokens) (length buffer)) (Wrote (at + length tokens)) (Refused (refusal ROOM 0))
-
-unfoldable pub writingIn : Version → Record → List ℕ → List ℕ → ℕ → Written
-writingIn v r body buffer at =
-    pick (writable v r (length body)) (room (tokensOf v r body) buffer at) (Refused (refusal RECORD 0))
-
-abbrev pub writingOn : Named → Record → List ℕ → List ℕ → ℕ → Written
-writingOn (Known v) r body buffer at = writingIn v r body buffer at
-writingOn Unknown r body buffer at = Refused (refusal VERSION 0)
-
--- the answer of the writer to a version token, a record, a body, a buffer and a place
-unfoldable pub writing : ℕ → Record → List ℕ → List ℕ → ℕ → Written
-writing version r body buffer at = writingOn (named version) r body buffer at
-
--- "only the named tokens change"; a refusal leaves the buffer as it was
-abbrev pub contentAfter : Written → List ℕ → List ℕ → ℕ → List ℕ
-contentAfter (Wrote next) tokens buffer at = pasted buffer at tokens
-contentAfter (Refused r) tokens buffer at = buffer
-
-unfoldable pub contentIn : Version → Record → List ℕ → List ℕ → ℕ → List ℕ
-contentIn v r body buffer at = contentAfter (writingIn v r body buffer at) (tokensOf v r body) buffer at
-
-abbrev pub contentOn : Named → Record → List ℕ → List ℕ → ℕ → List ℕ
-contentOn (Known v) r body buffer at = contentIn v r body buffer at
-contentOn Unknown r body buffer at = buffer
-
-unfoldable pub bufferAfter : ℕ → Record → List ℕ → List ℕ → ℕ → List ℕ
-bufferAfter version r body buffer at = contentOn (named version) r body buffer at
+-- the record can be written with this body: reading yields it, and the body's length agrees
+pub record Writable (v : Version) (r : Record) (body : List ℕ) : Type 0 where
+  pub yielded : Yielded v r
+  pub agrees : length body ≡ bodyLength r
 
 -- what a writing tells: a number and a position, and the next place
 pub record ToldWriting : Type 0 where
@@ -103,3 +47,14 @@ pub record ToldWriting : Type 0 where
 abbrev pub toldWriting : Written → ToldWriting
 toldWriting (Wrote next) = record { number = 0; position = 0; next = next }
 toldWriting (Refused r) = record { number = numberOf (r .reason); position = r .position; next = 0 }
+
+-- what the writer tells of a version token, a record, a body, a buffer and a place, and what the buffer holds then: VERSION, RECORD and ROOM,
+-- each only where the ones before it are not given, leave it as it was; a yes changes "only the named tokens"
+pub data Writes (version : ℕ) (r : Record) (body buffer : List ℕ) (at : ℕ) : ToldWriting → List ℕ → Type 0 where
+  unnamed : named version ≡ Unknown → Writes version r body buffer at (toldWriting (Refused (refusal VERSION 0))) buffer
+  unwritable : {v : Version} → named version ≡ Known v → (Writable v r body → ⊥) →
+      Writes version r body buffer at (toldWriting (Refused (refusal RECORD 0))) buffer
+  cramped : {v : Version} → named version ≡ Known v → Writable v r body → length buffer < at + length (tokensOf v r body) →
+      Writes version r body buffer at (toldWriting (Refused (refusal ROOM 0))) buffer
+  written : {v : Version} → named version ≡ Known v → Writable v r body → at + length (tokensOf v r body) ≤ length buffer →
+      Writes version r body buffer at (toldWriting (Wrote (at + length (tokensOf v r body)))) (pasted buffer at (tokensOf v r body))

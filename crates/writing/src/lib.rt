@@ -6,18 +6,16 @@ ghost use Prim.Native.Nat.{_+_, _%_, _^_, _≤_, _<_};
 ghost use lib.Dec.{eqb, leb};
 ghost use lib.ListN.{length};
 ghost use Rattle.paper.specs.Notation.{pick};
-ghost use Rattle.paper.specs.OpcodeTable.{DCL};
-ghost use Rattle.paper.specs.Versions.{tokenOf};
+ghost use Rattle.paper.specs.Versions.{versionToken};
 ghost use Rattle.paper.specs.Numbers.{refusal};
 ghost use Rattle.paper.specs.InstructionToken.{commentOpcode};
-ghost use Rattle.opcodes.specs.Places.{decoded};
-ghost use Rattle.opcodes.specs.Shape.{digits};
-ghost use Rattle.records.specs.Record.{declaredPlaces};
+ghost use Rattle.opcodes.specs.Places.{placeBy, decoded};
 ghost use Rattle.reader.specs.Reading.{reading};
 ghost use Rattle.writer.specs.Tokens.{operandToken, relativeToken, operandTokens, commentToken, tokensOf};
 ghost use Rattle.writing.specs.Same.{sameOperand, sameFields, sameRecord};
 ghost use Rattle.writing.specs.Buffer.{word, headToken, wordsOf, onFront};
-ghost use Rattle.writing.specs.Writing.{longestComment, yieldedComment, gives, readsBack, writingIn, contentIn, writing, bufferAfter, toldWriting};
+ghost use Rattle.writing.specs.Writing.{toldWriting, Writes};
+ghost use Rattle.writing.specs.Decided.{longestComment, yieldedComment, gives, readsBack, writingIn, contentIn};
 ghost use Rattle.writing.specs.Row.{orderTokens, behindTokens, Placed};
 use paper::Named;
 use paper::Reason;
@@ -27,15 +25,12 @@ use reader::Answer;
 use records::Operand;
 use records::Record;
 
-// Places of OperandTokens.antt, by their numbers there.
+// Places, by their numbers in specs/Places.antt of the opcodes.
 const RAW: u64 = 1;
 
+const USAGE: u64 = 2;
+
 const PREDICATE: u64 = 93;
-
-// DCL's places, a digit of base 128 for each: raw, and the destination that is declared.
-const DECLARED_PLACES: u64 = 1 + 61 * 128;
-
-const DECLARES: u32 = 31;
 
 const COMMENT: u32 = 0xFFFE;
 
@@ -146,10 +141,10 @@ fn put_token(room: &mut [u32], token: u32)
 
 // An operand at the front of the room: its token, and its relative token in the remainder. How many tokens it takes.
 fn put_operand(room: &mut [u32], place: u64, operand: Operand) -> usize
-    requires { ⌜ length (operandTokens place operand) ≤ length (now room) ⌝ }
-    ensures { λ n. ⌜ (n ≡ length (operandTokens place operand)) × (now (room .exit) ≡ onFront (now (room .entry)) (wordsOf (operandTokens place operand))) ⌝ }
+    requires { ⌜ length (operandTokens (placeBy place) operand) ≤ length (now room) ⌝ }
+    ensures { λ n. ⌜ (n ≡ length (operandTokens (placeBy place) operand)) × (now (room .exit) ≡ onFront (now (room .entry)) (wordsOf (operandTokens (placeBy place) operand))) ⌝ }
 {
-    if place == RAW {
+    if (place == RAW) | (place == USAGE) {
         room[0] = raw_token(operand);
         return 1;
     }
@@ -194,12 +189,9 @@ fn put_behind(room: &mut [u32], places: u64, predicated: bool, operands: [Operan
 }
 
 // The places of an opcode of this shape.
-fn places_of(opcode: u32, shape: u64) -> u64
-    ensures { λ r. ⌜ r ≡ pick (eqb opcode DCL) (digits declaredPlaces) (shape % 2 ^ 35) ⌝ }
+fn places_of(shape: u64) -> u64
+    ensures { λ r. ⌜ r ≡ shape % 2 ^ 35 ⌝ }
 {
-    if opcode == DECLARES {
-        return DECLARED_PLACES;
-    }
     shape % 0x8_0000_0000
 }
 
@@ -216,8 +208,8 @@ fn put_record(room: &mut [u32], version: Version, instruction: Record) -> usize
     if shape == 0 {
         return 0;
     }
-    let places = places_of(instruction.opcode, shape);
-    let predicated = (instruction.predicated == 1) & (instruction.opcode != DECLARES);
+    let places = places_of(shape);
+    let predicated = instruction.predicated == 1;
     let operands = instruction.operands;
     let size = put_behind(&mut room[1..], places, predicated, operands);
     room[0] = instruction_token(
@@ -249,7 +241,7 @@ fn is_yielded(version: u32, tokens: &[u32], instruction: Record) -> bool
 
 // The record's tokens, read back.
 fn read_back(version: u32, known: Version, instruction: Record) -> Encoded
-    requires { ⌜ (version ≡ tokenOf known) × (eqb (instruction .opcode) commentOpcode ≡ false) ⌝ }
+    requires { ⌜ (version ≡ versionToken known) × (eqb (instruction .opcode) commentOpcode ≡ false) ⌝ }
     ensures { λ r. ⌜ (r .yielded ≡ readsBack known instruction) × (r .count ≡ length (tokensOf known instruction [])) ⌝ }
 {
     let mut tokens = [0u32; MOST_ENCODED];
@@ -348,7 +340,7 @@ fn write_known(
     buffer: &mut [u32],
     at: usize,
 ) -> Written
-    requires { ⌜ version ≡ tokenOf known ⌝ }
+    requires { ⌜ version ≡ versionToken known ⌝ }
     ensures { λ r. ⌜ (r ≡ writingIn known instruction (now (body .entry)) (now (buffer .entry)) at) × (now (buffer .exit) ≡ contentIn known instruction (now (body .entry)) (now (buffer .entry)) at) ⌝ }
 {
     if instruction.opcode == COMMENT {
@@ -378,8 +370,7 @@ pub fn write(
     buffer: &mut [u32],
     at: usize,
 ) -> Written
-    ensures told { λ r. ⌜ toldWriting r ≡ toldWriting (writing version instruction (now (body .entry)) (now (buffer .entry)) at) ⌝ }
-    ensures content { λ _. ⌜ now (buffer .exit) ≡ bufferAfter version instruction (now (body .entry)) (now (buffer .entry)) at ⌝ }
+    ensures { λ r. ⌜ Writes version instruction (now (body .entry)) (now (buffer .entry)) at (toldWriting r) (now (buffer .exit)) ⌝ }
 {
     let named = versions::version_of(version);
     match named {

@@ -1,3 +1,4 @@
+use native.Mathlib.Nat.{div-one}
 use borrow.Author.Needs.{needs}
 use Rattle.dcl.proofs.form_by.Statement.{statement}
 use Rattle.dcl.proofs.form_by.Tie as tie
@@ -9,7 +10,7 @@ returns : tie.Need-returns
 returns c = simp (c .sampler-form .ensures, c .before .if1 .taken)
 
 returns-2 : tie.Need-returns-2
-returns-2 c = simp (c .if2 .taken, c .before .if1 .left)
+returns-2 c = simp (c .if2 .taken, c .before .if1 .left, div-one (c .before .before .args .usage))
 
 pixel-usage-requires : tie.Need-pixel-usage-requires
 pixel-usage-requires c κs = search needs

@@ -1,3 +1,4 @@
+use Rattle.dcl.proofs.Laws.{sampler-types, plain-types}
 use borrow.Author.Needs.{needs}
 use Rattle.dcl.proofs.form_laid.Statement.{statement}
 use Rattle.dcl.proofs.form_laid.Tie as tie
@@ -21,7 +22,7 @@ form-by-requires : tie.Need-form-by-requires
 form-by-requires c κs = search needs
 
 returns : tie.Need-returns
-returns c = rw (c .form-by .ensures, c .before .is-pixel .ensures, c .before .before .type-in2 .ensures, c .before .before .before .plain-types .ensures, c .before .before .before .before .type-in .ensures, c .before .before .before .before .before .sampler-types .ensures)
+returns c = rw (c .form-by .ensures, c .before .is-pixel .ensures, c .before .before .type-in2 .ensures, c .before .before .before .plain-types .ensures, c .before .before .before .before .type-in .ensures, c .before .before .before .before .before .sampler-types .ensures, sampler-types _ _, plain-types _ _)
 
 pub form-laid-spec : {M : Type 1} → statement M
 form-laid-spec =

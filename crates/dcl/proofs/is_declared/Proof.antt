@@ -1,3 +1,4 @@
+use Rattle.dcl.proofs.Laws.{sampler-types, plain-types, usage-types}
 use borrow.Author.Needs.{needs}
 use Rattle.dcl.proofs.is_declared.Statement.{statement}
 use Rattle.dcl.proofs.is_declared.Tie as tie
@@ -21,7 +22,10 @@ type-in-requires-3 : tie.Need-type-in-requires-3
 type-in-requires-3 c κs = search needs
 
 returns : tie.Need-returns
-returns c = rw (c .type-in3 .ensures, c .before .usage-types .ensures, c .before .before .type-in2 .ensures, c .before .before .before .plain-types .ensures, c .before .before .before .before .type-in .ensures, c .before .before .before .before .before .sampler-types .ensures)
+returns c =
+    let s = c .before .before .before .before .before in
+    let g = s .before .args in
+    rw (c .type-in3 .ensures, c .before .usage-types .ensures, c .before .before .type-in2 .ensures, c .before .before .before .plain-types .ensures, c .before .before .before .before .type-in .ensures, s .sampler-types .ensures, sampler-types (g .version) (g .destination), plain-types (g .version) (g .destination), usage-types (g .version) (g .destination))
 
 pub is-declared-spec : {M : Type 1} → statement M
 is-declared-spec =

@@ -1,8 +1,10 @@
-use mathlib.Core.Path.{refl, sym, _∙_}
+use mathlib.Core.Path.{refl, sym, ap, _∙_}
 use Prim.Native.Nat.{_+_, _-_}
 use native.Mathlib.Omega.{arith}
 use lib.ListN.{length}
 use lib.Seq.{take-all}
+use Rattle.paper.proofs.LowBits.{opcode-low}
+use Rattle.opcodes.specs.Shape.{shapeOf}
 use Rattle.instruction.proofs.Judging.{judged-unlisted, judged-bits, class-in, judged-listed}
 use borrow.Author.Needs.{needs}
 use Rattle.instruction.proofs.judge_first.Statement.{statement}
@@ -17,7 +19,8 @@ judge-unlisted-requires c κs = search needs
 returns : tie.Need-returns
 returns c =
     let g = c .before .before .before .before .args in
-    rw (judged-unlisted (g .version) (g .first) (g .behind .now) (length (g .behind .now) + g .beyond) (sym (c .before .before .shape-of .ensures) ∙ c .before .if1 .taken)) (c .judge-unlisted .ensures)
+    let shape = c .before .before .shape-of .ensures ∙ ap (shapeOf (g .version)) (opcode-low (g .first)) in
+    rw (judged-unlisted (g .version) (g .first) (g .behind .now) (length (g .behind .now) + g .beyond) (sym shape ∙ c .before .if1 .taken)) (c .judge-unlisted .ensures)
 
 bits-laid-requires : tie.Need-bits-laid-requires
 bits-laid-requires c κs = search needs
@@ -34,13 +37,13 @@ part-judge-listed-end c = search needs
 judge-listed-requires : tie.Need-judge-listed-requires
 judge-listed-requires c κs =
     let g = c .before .before .before .before .before .before .args in
-    let shape = c .before .before .before .before .shape-of .ensures in
+    let shape = c .before .before .before .before .shape-of .ensures ∙ ap (shapeOf (g .version)) (opcode-low (g .first)) in
     rw shape (class-in (g .version) (g .first) (λ z. c .before .before .before .if1 .left (shape ∙ z)))
 
 returns-2 : tie.Need-returns-2
 returns-2 c =
     let g = c .before .before .before .before .before .before .before .args in
-    let shape = c .before .before .before .before .before .shape-of .ensures in
+    let shape = c .before .before .before .before .before .shape-of .ensures ∙ ap (shapeOf (g .version)) (opcode-low (g .first)) in
     rw (
       judged-listed (g .version) (g .first) (λ z. c .before .before .before .before .if1 .left (shape ∙ z)) (g .behind .now) (length (g .behind .now) + g .beyond)
           (rw shape at (sym (c .before .before .before .bits-laid .ensures) ∙ c .before .before .if2 .taken)),
@@ -51,7 +54,7 @@ returns-2 c =
 returns-3 : tie.Need-returns-3
 returns-3 c =
     let g = c .before .before .before .before .before .args in
-    let shape = c .before .before .before .shape-of .ensures in
+    let shape = c .before .before .before .shape-of .ensures ∙ ap (shapeOf (g .version)) (opcode-low (g .first)) in
     rw (judged-bits (g .version) (g .first) (λ z. c .before .before .if1 .left (shape ∙ z)) (g .behind .now) (length (g .behind .now) + g .beyond)
     (rw shape at (sym (c .before .bits-laid .ensures) ∙ c .if2 .left))) refl
 

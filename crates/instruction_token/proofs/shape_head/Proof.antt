@@ -1,5 +1,6 @@
 use mathlib.Core.Path.{sym, _∙_}
 use borrow.Author.Tests.{eq-eqb, ne-eqb}
+use Rattle.paper.proofs.LowBits.{opcode-low}
 use Rattle.instruction_token.specs.Encoded.{headBy}
 use borrow.Author.Needs.{needs}
 use Rattle.instruction_token.proofs.shape_head.Statement.{statement}
@@ -17,14 +18,14 @@ cast-size c = search needs
 
 returns-2 : tie.Need-returns-2
 unfolding headBy
-returns-2 c = simp (eq-eqb _ _ (c .if3 .taken), sym (c .before .before .bits-laid .ensures) ∙ c .before .if2 .taken, ne-eqb _ _ (c .before .before .before .if1 .left))
+returns-2 c = simp (eq-eqb _ _ (sym (opcode-low (c .before .before .before .before .args .token)) ∙ c .if3 .taken), sym (c .before .before .bits-laid .ensures) ∙ c .before .if2 .taken, ne-eqb _ _ (c .before .before .before .if1 .left))
 
 places-of-requires : tie.Need-places-of-requires
 places-of-requires c κs = search needs
 
 returns-3 : tie.Need-returns-3
 unfolding headBy
-returns-3 c = simp (c .places-of .ensures, ne-eqb _ _ (c .before .if3 .left), sym (c .before .before .before .bits-laid .ensures) ∙ c .before .before .if2 .taken, ne-eqb _ _ (c .before .before .before .before .if1 .left))
+returns-3 c = simp (c .places-of .ensures, ne-eqb _ _ (λ e. c .before .if3 .left (opcode-low (c .before .before .before .before .before .args .token) ∙ e)), sym (c .before .before .before .bits-laid .ensures) ∙ c .before .before .if2 .taken, ne-eqb _ _ (c .before .before .before .before .if1 .left))
 
 returns-4 : tie.Need-returns-4
 unfolding headBy

@@ -7,20 +7,20 @@ use Rattle.layout.proofs.free_source_laid.Tie as tie
 both-laid-requires : tie.Need-both-laid-requires
 both-laid-requires c κs = search needs
 
-free-modifier-requires : tie.Need-free-modifier-requires
-free-modifier-requires c κs = search needs
+source-modifier-requires : tie.Need-source-modifier-requires
+source-modifier-requires c κs = search needs
 
 returns : tie.Need-returns
-returns c = simp (sym (c .before .before .before .before .both-laid .ensures) ∙ c .before .before .before .if1 .taken, sym (c .before .before .free-modifier .ensures) ∙ c .before .if2 .taken, eq-eqb _ _ (c .if3 .taken))
+returns c = simp (sym (c .before .before .before .before .both-laid .ensures) ∙ c .before .before .before .if1 .taken, sym (c .before .before .source-modifier .ensures) ∙ c .before .if2 .taken, eq-eqb _ _ (c .if3 .taken))
 
 relative-sources-requires : tie.Need-relative-sources-requires
 relative-sources-requires c κs = search needs
 
 returns-2 : tie.Need-returns-2
-returns-2 c = simp (sym (c .before .before .before .before .before .both-laid .ensures) ∙ c .before .before .before .before .if1 .taken, sym (c .before .before .before .free-modifier .ensures) ∙ c .before .before .if2 .taken, ne-eqb _ _ (c .before .if3 .left), c .relative-sources .ensures)
+returns-2 c = simp (sym (c .before .before .before .before .before .both-laid .ensures) ∙ c .before .before .before .before .if1 .taken, sym (c .before .before .before .source-modifier .ensures) ∙ c .before .before .if2 .taken, ne-eqb _ _ (c .before .if3 .left), c .relative-sources .ensures)
 
 returns-3 : tie.Need-returns-3
-returns-3 c = simp (sym (c .before .before .before .both-laid .ensures) ∙ c .before .before .if1 .taken, sym (c .before .free-modifier .ensures) ∙ c .if2 .left)
+returns-3 c = simp (sym (c .before .before .before .both-laid .ensures) ∙ c .before .before .if1 .taken, sym (c .before .source-modifier .ensures) ∙ c .if2 .left)
 
 returns-4 : tie.Need-returns-4
 returns-4 c = simp (sym (c .before .both-laid .ensures) ∙ c .if1 .left)
@@ -30,7 +30,7 @@ free-source-laid-spec =
     tie.close
     (tie.spec
     both-laid-requires
-    free-modifier-requires
+    source-modifier-requires
     returns
     relative-sources-requires
     returns-2

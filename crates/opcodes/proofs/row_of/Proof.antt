@@ -1,15 +1,15 @@
 -- `opcodes::row_of` meets its contract: each arm by what the table says of its opcode.
 use mathlib.Core.Path.{sym}
-use Rattle.paper.specs.OpcodeTable.{rows, entryOf}
-use Rattle.paper.specs.OperandTokens.{typedPlaces}
-use Rattle.paper.specs.Blocks.{classOf}
+use Rattle.paper.specs.OpcodeTable.{rows}
+use Rattle.paper.specs.Blocks.{classes, classOf}
+use Rattle.paper.specs.Places.{entryOf, typedPlaces}
 use Rattle.opcodes.specs.Rows.{rowOf}
 use Rattle.opcodes.proofs.Table.{no-row}
 use Rattle.opcodes.proofs.row_of.Statement.{statement}
 use Rattle.opcodes.proofs.row_of.Tie as tie
 
 pub row-of-spec : {M : Type 1} → statement M
-unfolding rows entryOf typedPlaces classOf rowOf
+unfolding rows entryOf typedPlaces classOf classes rowOf
 row-of-spec =
     tie.close
     (tie.spec

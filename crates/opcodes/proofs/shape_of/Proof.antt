@@ -3,9 +3,9 @@ use mathlib.Core.Path.{_≡_}
 use native.Mathlib.Omega.{arith}
 use borrow.Author.Needs.{needs}
 use borrow.Author.Tests.{eq-eqb, ne-eqb}
-use Rattle.paper.specs.OpcodeTable.{rows, entryOf}
-use Rattle.paper.specs.OperandTokens.{typedPlaces}
-use Rattle.paper.specs.Blocks.{classOf}
+use Rattle.paper.specs.OpcodeTable.{rows}
+use Rattle.paper.specs.Blocks.{classes, classOf}
+use Rattle.paper.specs.Places.{entryOf, typedPlaces}
 use Rattle.opcodes.specs.Shape.{shapeOf}
 use Rattle.opcodes.proofs.Table.{rank-small, found, looked-up}
 use Rattle.opcodes.proofs.shape_of.Statement.{statement}
@@ -31,7 +31,7 @@ shr-if1 : tie.Need-shr-if1
 shr-if1 c = omega (arith, rank-small (c .before .before .args .version) _ (c .before .rank-of .ensures))
 
 returns : tie.Need-returns
-unfolding rows entryOf typedPlaces classOf shapeOf
+unfolding rows entryOf typedPlaces classOf classes shapeOf
 returns c = rw (eq-eqb _ _ (c .before .if1 .taken), c .if2 .taken) at (looks (c .before .before))
 
 returns-2 : tie.Need-returns-2

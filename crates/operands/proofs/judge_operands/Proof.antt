@@ -3,7 +3,7 @@ use Prim.Native.Nat.{_+_, _*_, _%_, _≤_}
 use native.Mathlib.Omega.{arith}
 use lib.ListN.{length, drop}
 use Rattle.paper.specs.Instruction.{operand, operands}
-use Rattle.opcodes.specs.Places.{decoded}
+use Rattle.opcodes.specs.Places.{placeBy, decoded}
 use Rattle.operands.specs.Numbered.{operandsNumber}
 use Rattle.operands.proofs.Laws.{operand-within, operand-few, decoded-few, decoded-less, operands-on, operands-refused, operands-fit, operands-over}
 use Rattle.operands.proofs.Numbers.{taken-even, taken-odd}
@@ -30,7 +30,7 @@ returns : tie.Need-returns Inv-loop μ-loop
 returns c =
     let g = c .before .before .before .before .before .args in
     let l = c .before .before .before .loop in
-    let odd = taken-odd (operand (g .version) (l .left % 128) (l .at + 1) (drop (l .at) (g .behind .now))) _ (c .before .take-operand .ensures) (c .if1 .taken) in
+    let odd = taken-odd (operand (g .version) (placeBy (l .left % 128)) (l .at + 1) (drop (l .at) (g .behind .now))) _ (c .before .take-operand .ensures) (c .if1 .taken) in
     odd .2
     ∙ ap operandsNumber
     (sym (operands-refused (g .version) (l .left) (l .at) (g .behind .now) (omega arith) (c .before .before .loop-test .taken) _ (odd .1)) ∙ l .inv .3)
@@ -39,8 +39,8 @@ add-at : tie.Need-add-at Inv-loop μ-loop
 add-at c =
     let g = c .before .before .before .before .before .args in
     let l = c .before .before .before .loop in
-    let took = taken-even (operand (g .version) (l .left % 128) (l .at + 1) (drop (l .at) (g .behind .now))) _ (c .before .take-operand .ensures) (c .if1 .left) in
-    let within = operand-within (g .version) (l .left % 128) (l .at + 1) _ (l .at) (g .behind .now) (l .inv .0) took in
+    let took = taken-even (operand (g .version) (placeBy (l .left % 128)) (l .at + 1) (drop (l .at) (g .behind .now))) _ (c .before .take-operand .ensures) (c .if1 .left) in
+    let within = operand-within (g .version) (placeBy (l .left % 128)) (l .at + 1) _ (l .at) (g .behind .now) (l .inv .0) took in
     omega arith
 
 loop-less : tie.Need-loop-less Inv-loop μ-loop
@@ -50,9 +50,9 @@ loop-again : tie.Need-loop-again Inv-loop μ-loop
 loop-again c =
     let g = c .before .before .before .before .before .args in
     let l = c .before .before .before .loop in
-    let took = taken-even (operand (g .version) (l .left % 128) (l .at + 1) (drop (l .at) (g .behind .now))) _ (c .before .take-operand .ensures) (c .if1 .left) in
-    let within = operand-within (g .version) (l .left % 128) (l .at + 1) _ (l .at) (g .behind .now) (l .inv .0) took in
-    let few = operand-few (g .version) (l .left % 128) (l .at + 1) _ (drop (l .at) (g .behind .now)) took in
+    let took = taken-even (operand (g .version) (placeBy (l .left % 128)) (l .at + 1) (drop (l .at) (g .behind .now))) _ (c .before .take-operand .ensures) (c .if1 .left) in
+    let within = operand-within (g .version) (placeBy (l .left % 128)) (l .at + 1) _ (l .at) (g .behind .now) (l .inv .0) took in
+    let few = operand-few (g .version) (placeBy (l .left % 128)) (l .at + 1) _ (drop (l .at) (g .behind .now)) took in
     let less = decoded-less (l .left) (omega arith) (c .before .before .loop-test .taken) in (
       omega arith,
       omega arith,

@@ -2,9 +2,13 @@ use mathlib.Core.Path.{refl, sym}
 use Prim.Native.Nat.{_+_}
 use native.Mathlib.Omega.{arith}
 use lib.ListN.{getD}
-use Rattle.paper.specs.OperandTokens.{freeSource, freeDestination, tokenAt}
+use Rattle.paper.specs.OperandTokens.{tokenAt}
+use Rattle.paper.specs.Places.{freeSource, freeDestination}
 use Rattle.operands.proofs.Laws.{operand-none, free-number, typed-number, raw-number}
 use Rattle.operands.proofs.Numbers.{token-few}
+use Rattle.opcodes.specs.Places.{placeBy}
+use Rattle.opcodes.proofs.Places.{raw-place, free-destination-place, free-source-place}
+use Rattle.opcodes.proofs.PlaceKinds.{not-free}
 use borrow.Author.Needs.{needs}
 use Rattle.operands.proofs.take_operand.Statement.{statement}
 use Rattle.operands.proofs.take_operand.Tie as tie
@@ -12,7 +16,7 @@ use Rattle.operands.proofs.take_operand.Tie as tie
 returns : tie.Need-returns
 returns c =
     let g = c .before .before .args in
-    rw (operand-none (g .version) (g .place) (g .at + 1) (g .at) (g .behind .now) (c .if1 .taken)) refl
+    rw (operand-none (g .version) (placeBy (g .place)) (g .at + 1) (g .at) (g .behind .now) (c .if1 .taken)) refl
 
 mul-token : tie.Need-mul-token
 mul-token c = search needs
@@ -31,7 +35,7 @@ take-free-requires c κs =
 returns-2 : tie.Need-returns-2
 returns-2 c =
     let g = c .before .before .before .before .before .before .args in
-    rw (c .before .before .if2 .taken, free-number (g .version) freeSource (g .at + 1) (g .at) _ (g .behind .now) (c .before .before .before .before .if1 .left) (c .before .judge-source .ensures) (λ e. omega arith)) (c .take-free .ensures)
+    rw (c .before .before .if2 .taken, free-source-place, free-number (g .version) freeSource (g .at + 1) (g .at) _ (g .behind .now) (c .before .before .before .before .if1 .left) (c .before .judge-source .ensures) refl) (c .take-free .ensures)
 
 judge-destination-requires : tie.Need-judge-destination-requires
 judge-destination-requires c κs = search needs
@@ -44,12 +48,12 @@ take-free-requires-2 c κs =
 returns-3 : tie.Need-returns-3
 returns-3 c =
     let g = c .before .before .before .before .before .before .before .args in
-    rw (c .before .before .if3 .taken, free-number (g .version) freeDestination (g .at + 1) (g .at) _ (g .behind .now) (c .before .before .before .before .before .if1 .left) (c .before .judge-destination .ensures) (λ e. omega arith)) (c .take-free2 .ensures)
+    rw (c .before .before .if3 .taken, free-destination-place, free-number (g .version) freeDestination (g .at + 1) (g .at) _ (g .behind .now) (c .before .before .before .before .before .if1 .left) (c .before .judge-destination .ensures) refl) (c .take-free2 .ensures)
 
 returns-4 : tie.Need-returns-4
 returns-4 c =
     let g = c .before .before .before .before .before .before .args in
-    sym (raw-number (g .version) (g .place) (g .at + 1) (g .at) 0 (g .behind .now) (c .before .before .before .before .if1 .left) (c .if4 .taken))
+    sym (raw-number (g .version) (placeBy (g .place)) (g .at + 1) (g .at) 0 (g .behind .now) (c .before .before .before .before .if1 .left) (rw (c .if4 .taken) raw-place))
 
 judge-token-requires : tie.Need-judge-token-requires
 judge-token-requires c κs = search needs
@@ -57,12 +61,12 @@ judge-token-requires c κs = search needs
 take-typed-requires : tie.Need-take-typed-requires
 take-typed-requires c κs =
     let g = c .before .before .before .before .before .before .before .args in
-    (rw (c .judge-token .ensures) (token-few (tokenAt (g .version) (g .place) (getD (g .behind .now) (g .at) 0))), omega arith)
+    (rw (c .judge-token .ensures) (token-few (tokenAt (g .version) (placeBy (g .place)) (getD (g .behind .now) (g .at) 0))), omega arith)
 
 returns-5 : tie.Need-returns-5
 returns-5 c =
     let g = c .before .before .before .before .before .before .before .before .args in
-    rw (typed-number (g .version) (g .place) (g .at + 1) (g .at) _ (g .behind .now) (c .before .before .before .before .before .before .if1 .left) (c .before .judge-token .ensures) (c .before .before .before .before .if2 .left) (c .before .before .before .if3 .left)) (c .take-typed .ensures)
+    rw (typed-number (g .version) (placeBy (g .place)) (g .at + 1) (g .at) _ (g .behind .now) (c .before .before .before .before .before .before .if1 .left) (c .before .judge-token .ensures) (not-free (g .place) (c .before .before .before .before .if2 .left) (c .before .before .before .if3 .left))) (c .take-typed .ensures)
 
 pub take-operand-spec : {M : Type 1} → statement M
 take-operand-spec =

@@ -3,7 +3,8 @@ use Prim.Native.Nat.{_+_}
 use native.Mathlib.Omega.{arith}
 use lib.ListN.{getD}
 use borrow.Author.Tests.{ne-eqb}
-use Rattle.paper.specs.OperandTokens.{relative, tokenAt}
+use Rattle.paper.specs.OperandTokens.{tokenAt}
+use Rattle.paper.specs.Places.{relative}
 use Rattle.operands.proofs.Laws.{relative-none, relative-number}
 use Rattle.operands.proofs.Numbers.{token-few}
 use borrow.Author.Needs.{needs}

@@ -1,27 +1,19 @@
 use borrow.Author.Needs.{needs}
 use Rattle.santubeli.proofs.write_answer_of.Statement.{statement}
 use Rattle.santubeli.proofs.write_answer_of.Tie as tie
-use Rattle.santubeli.proofs.write_answer_of.Reads as reads
-use Rattle.santubeli.proofs.write_answer_of.Lts as lts
-use Rattle.paper.proofs.number_of.Reads as number-of-reads
 
--- src/lib.rt:152:24
 enum-known-written : tie.Need-enum-known-written
 enum-known-written c = search needs
 
--- src/lib.rt:157:26
 enum-known-written-2 : tie.Need-enum-known-written-2
 enum-known-written-2 c = search needs
 
--- src/lib.rt:160:25
 number-of-requires : tie.Need-number-of-requires
 number-of-requires c κs = search needs
 
--- src/lib.rt:148:1
 returns : tie.Need-returns
 returns c = simp (c .before .written .given .1)
 
--- src/lib.rt:148:1
 returns-2 : tie.Need-returns-2
 returns-2 c = simp (c .number-of .ensures, c .before .before .written2 .given .1)
 

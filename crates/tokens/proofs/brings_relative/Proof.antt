@@ -1,12 +1,16 @@
-use borrow.Author.Tests.{eq-eqb, ne-eqb}
+use mathlib.Core.Path.{sym, _∙_}
+use borrow.Author.Needs.{needs}
 use Rattle.tokens.proofs.brings_relative.Statement.{statement}
 use Rattle.tokens.proofs.brings_relative.Tie as tie
 
+is-raw-requires : tie.Need-is-raw-requires
+is-raw-requires c κs = search needs
+
 returns : tie.Need-returns
-returns c = simp (eq-eqb _ _ (c .if1 .taken))
+returns c = rw (sym (c .before .is-raw .ensures) ∙ c .if1 .taken)
 
 returns-2 : tie.Need-returns-2
-returns-2 c = simp (ne-eqb _ _ (c .if1 .left))
+returns-2 c = rw (sym (c .before .is-raw .ensures) ∙ c .if1 .left)
 
 pub brings-relative-spec : {M : Type 1} → statement M
-brings-relative-spec = tie.close (tie.spec returns returns-2)
+brings-relative-spec = tie.close (tie.spec is-raw-requires returns returns-2)

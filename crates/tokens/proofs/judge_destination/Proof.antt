@@ -1,6 +1,7 @@
 use mathlib.Core.Path.{sym, _∙_}
 use Rattle.paper.specs.OperandTokens.{tokenAt}
 use Rattle.tokens.proofs.Laws.{plain-destination-laid}
+use Rattle.versions.proofs.Laws.{destination-types}
 use borrow.Author.Needs.{needs}
 use Rattle.tokens.proofs.judge_destination.Statement.{statement}
 use Rattle.tokens.proofs.judge_destination.Tie as tie
@@ -16,7 +17,7 @@ told-by-type-requires c κs = search needs
 
 returns : tie.Need-returns
 unfolding tokenAt
-returns c = rw (c .told-by-type .ensures, c .before .free-destination-types .ensures, plain-destination-laid _ _ (sym (c .before .before .before .plain-destination .ensures) ∙ c .before .before .if1 .taken))
+returns c = rw (c .told-by-type .ensures, c .before .free-destination-types .ensures, destination-types _ _, plain-destination-laid _ _ (sym (c .before .before .before .plain-destination .ensures) ∙ c .before .before .if1 .taken))
 
 free-destination-laid-requires : tie.Need-free-destination-laid-requires
 free-destination-laid-requires c κs = search needs
@@ -29,7 +30,7 @@ told-by-type-requires-2 c κs = search needs
 
 returns-2 : tie.Need-returns-2
 unfolding tokenAt
-returns-2 c = rw (c .told-by-type2 .ensures, c .before .free-destination-types2 .ensures, sym (c .before .before .before .free-destination-laid .ensures) ∙ c .before .before .if2 .taken)
+returns-2 c = rw (c .told-by-type2 .ensures, c .before .free-destination-types2 .ensures, destination-types _ _, sym (c .before .before .before .free-destination-laid .ensures) ∙ c .before .before .if2 .taken)
 
 returns-3 : tie.Need-returns-3
 unfolding tokenAt

@@ -1,6 +1,7 @@
 use mathlib.Core.Path.{sym, _∙_}
 use Rattle.paper.specs.OperandTokens.{tokenAt}
 use Rattle.tokens.proofs.Laws.{plain-source-laid}
+use Rattle.versions.proofs.Laws.{source-types}
 use borrow.Author.Needs.{needs}
 use Rattle.tokens.proofs.judge_source.Statement.{statement}
 use Rattle.tokens.proofs.judge_source.Tie as tie
@@ -16,7 +17,7 @@ told-by-type-requires c κs = search needs
 
 returns : tie.Need-returns
 unfolding tokenAt
-returns c = rw (c .told-by-type .ensures, c .before .free-source-types .ensures, plain-source-laid _ _ (sym (c .before .before .before .plain-source .ensures) ∙ c .before .before .if1 .taken))
+returns c = rw (c .told-by-type .ensures, c .before .free-source-types .ensures, source-types _ _, plain-source-laid _ _ (sym (c .before .before .before .plain-source .ensures) ∙ c .before .before .if1 .taken))
 
 free-source-laid-requires : tie.Need-free-source-laid-requires
 free-source-laid-requires c κs = search needs
@@ -29,7 +30,7 @@ told-by-type-requires-2 c κs = search needs
 
 returns-2 : tie.Need-returns-2
 unfolding tokenAt
-returns-2 c = rw (c .told-by-type2 .ensures, c .before .free-source-types2 .ensures, sym (c .before .before .before .free-source-laid .ensures) ∙ c .before .before .if2 .taken)
+returns-2 c = rw (c .told-by-type2 .ensures, c .before .free-source-types2 .ensures, source-types _ _, sym (c .before .before .before .free-source-laid .ensures) ∙ c .before .before .if2 .taken)
 
 returns-3 : tie.Need-returns-3
 unfolding tokenAt

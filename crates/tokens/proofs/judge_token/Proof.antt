@@ -1,8 +1,11 @@
 use mathlib.Core.Path.{sym, _∙_, ap}
-use borrow.Author.Tests.{eq-eqb, ne-eqb}
-use Rattle.tokens.proofs.Laws.{not-raw, raw-good, typed-not-relative}
-use Rattle.paper.specs.Numbers.{toldToken}
 use borrow.Author.Needs.{needs}
+use Rattle.paper.specs.OperandTokens.{tokenAt}
+use Rattle.paper.specs.Numbers.{toldToken}
+use Rattle.opcodes.specs.Places.{placeBy}
+use Rattle.opcodes.proofs.Places.{free-source-place, free-destination-place}
+use Rattle.opcodes.proofs.PlaceKinds.{not-free}
+use Rattle.tokens.proofs.Laws.{raw-good}
 use Rattle.tokens.proofs.judge_token.Statement.{statement}
 use Rattle.tokens.proofs.judge_token.Tie as tie
 
@@ -10,33 +13,45 @@ judge-source-requires : tie.Need-judge-source-requires
 judge-source-requires c κs = search needs
 
 returns : tie.Need-returns
-returns c = rw (c .before .if1 .taken) (c .judge-source .ensures)
+returns c = rw (c .before .if1 .taken, free-source-place) (c .judge-source .ensures)
 
 judge-destination-requires : tie.Need-judge-destination-requires
 judge-destination-requires c κs = search needs
 
 returns-2 : tie.Need-returns-2
-returns-2 c = rw (c .before .if2 .taken) (c .judge-destination .ensures)
+returns-2 c = rw (c .before .if2 .taken, free-destination-place) (c .judge-destination .ensures)
+
+is-raw-requires : tie.Need-is-raw-requires
+is-raw-requires c κs = search needs
 
 returns-3 : tie.Need-returns-3
-returns-3 c = ap toldToken (raw-good _ _ _ (eq-eqb _ _ (c .if3 .taken)))
+returns-3 c =
+    let g = c .before .before .before .before .args in
+    ap toldToken (raw-good (g .version) (placeBy (g .place)) (g .token) (sym (c .before .is-raw .ensures) ∙ c .if3 .taken))
 
 typed-laid-requires : tie.Need-typed-laid-requires
-typed-laid-requires c κs =
-    let g = c .before .before .before .args in
-    typed-not-relative (g .version) (g .place) (c .before .before .if1 .left) (c .before .if2 .left)
+typed-laid-requires c κs = (
+  sym (c .before .is-raw .ensures) ∙ c .if3 .left,
+  not-free (c .before .before .before .before .args .place) (c .before .before .before .if1 .left) (c .before .before .if2 .left),
+)
 
 typed-at-requires : tie.Need-typed-at-requires
-typed-at-requires c κs = (ne-eqb _ _ (c .before .before .before .if2 .left), ne-eqb _ _ (c .before .before .before .before .if1 .left))
+typed-at-requires c κs =
+    let s = c .before .before in (
+      sym (s .before .is-raw .ensures) ∙ s .if3 .left,
+      not-free (s .before .before .before .before .args .place) (s .before .before .before .if1 .left) (s .before .before .if2 .left),
+    )
 
 told-typed-requires : tie.Need-told-typed-requires
 told-typed-requires c κs = search needs
 
 returns-4 : tie.Need-returns-4
-returns-4 c = rw (not-raw _ _ _ (ne-eqb _ _ (c .before .before .before .before .if3 .left)), c .told-typed .ensures, c .before .typed-at .ensures, sym (c .before .before .before .typed-laid .ensures) ∙ c .before .before .if4 .taken)
+unfolding tokenAt
+returns-4 c = rw (c .told-typed .ensures, c .before .typed-at .ensures, sym (c .before .before .before .typed-laid .ensures) ∙ c .before .before .if4 .taken)
 
 returns-5 : tie.Need-returns-5
-returns-5 c = rw (not-raw _ _ _ (ne-eqb _ _ (c .before .before .if3 .left)), sym (c .before .typed-laid .ensures) ∙ c .if4 .left)
+unfolding tokenAt
+returns-5 c = rw (sym (c .before .typed-laid .ensures) ∙ c .if4 .left)
 
 pub judge-token-spec : {M : Type 1} → statement M
 judge-token-spec =
@@ -46,6 +61,7 @@ judge-token-spec =
     returns
     judge-destination-requires
     returns-2
+    is-raw-requires
     returns-3
     typed-laid-requires
     typed-at-requires

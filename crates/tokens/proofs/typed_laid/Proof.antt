@@ -1,7 +1,7 @@
-use mathlib.Core.Path.{_∙_}
-use borrow.Author.Tests.{eq-eqb, ne-eqb}
-use Rattle.layout.proofs.Laws.{typed-destination, typed-source}
+use mathlib.Core.Path.{_∙_, sym}
 use borrow.Author.Needs.{needs}
+use Rattle.opcodes.proofs.Places.{predicate-place, relative-place}
+use Rattle.tokens.proofs.Laws.{typed-destination-at, typed-source-at}
 use Rattle.tokens.proofs.typed_laid.Statement.{statement}
 use Rattle.tokens.proofs.typed_laid.Tie as tie
 
@@ -10,18 +10,41 @@ typed-destination-laid-requires c κs = search needs
 
 returns : tie.Need-returns
 returns c =
-    let g = c .before .before .args in
-    c .typed-destination-laid .ensures ∙ typed-destination (g .version) (g .place) (g .token) (c .before .before .pre) ∙ simp (eq-eqb _ _ (c .before .if1 .taken))
+    let s = c .before .before in
+    c .typed-destination-laid .ensures
+    ∙ typed-destination-at (s .args .version) (s .args .token) (s .args .place) (s .pre .0) (s .pre .1) (c .before .if1 .taken)
+
+predicate-laid-requires : tie.Need-predicate-laid-requires
+predicate-laid-requires c κs = search needs
+
+returns-2 : tie.Need-returns-2
+returns-2 c = rw (c .before .if2 .taken, predicate-place) (c .predicate-laid .ensures)
+
+relative-laid-requires : tie.Need-relative-laid-requires
+relative-laid-requires c κs = search needs
+
+returns-3 : tie.Need-returns-3
+returns-3 c = rw (c .before .if3 .taken, relative-place) (c .relative-laid .ensures)
 
 typed-source-laid-requires : tie.Need-typed-source-laid-requires
 typed-source-laid-requires c κs = search needs
 
-returns-2 : tie.Need-returns-2
-returns-2 c =
-    let g = c .before .before .args in
-    c .typed-source-laid .ensures ∙ typed-source (g .version) (g .place) (g .token) (c .before .before .pre) ∙ simp (ne-eqb _ _ (c .before .if1 .left))
+returns-4 : tie.Need-returns-4
+returns-4 c =
+    let s = c .before .before .before .before in
+    c .typed-source-laid .ensures
+    ∙ typed-source-at (s .args .version) (s .args .token) (s .args .place) (s .pre .0) (s .pre .1) (c .before .before .before .if1 .left)
+    (c .before .before .if2 .left) (c .before .if3 .left)
 
 pub typed-laid-spec : {M : Type 1} → statement M
 typed-laid-spec =
     tie.close
-    (tie.spec typed-destination-laid-requires returns typed-source-laid-requires returns-2)
+    (tie.spec
+    typed-destination-laid-requires
+    returns
+    predicate-laid-requires
+    returns-2
+    relative-laid-requires
+    returns-3
+    typed-source-laid-requires
+    returns-4)

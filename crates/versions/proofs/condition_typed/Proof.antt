@@ -11,7 +11,7 @@ type-of-requires c κs = search needs
 returns : tie.Need-returns
 returns c =
     let g = c .before .before .args in
-    rw (← (c .before .type-of .ensures .0)) (sym (condition-type (g .version) (c .before .type-of .result) (c .before .type-of .ensures .1) ∙ simp (eq-eqb _ _ (c .if1 .taken))))
+    rw (← (c .before .type-of .ensures .0)) (sym (condition-type (g .version) (c .before .type-of .result) ∙ simp (eq-eqb _ _ (c .if1 .taken))))
 
 is-third-requires : tie.Need-is-third-requires
 is-third-requires c κs = search needs
@@ -19,12 +19,12 @@ is-third-requires c κs = search needs
 returns-2 : tie.Need-returns-2
 returns-2 c =
     let g = c .before .before .before .before .args in
-    rw (← (c .before .before .before .type-of .ensures .0)) (sym (condition-type (g .version) (c .before .before .before .type-of .result) (c .before .before .before .type-of .ensures .1) ∙ simp (ne-eqb _ _ (c .before .before .if1 .left), eq-eqb _ _ (c .before .if2 .taken), c .is-third .ensures)))
+    rw (← (c .before .before .before .type-of .ensures .0)) (sym (condition-type (g .version) (c .before .before .before .type-of .result) ∙ simp (ne-eqb _ _ (c .before .before .if1 .left), eq-eqb _ _ (c .before .if2 .taken), c .is-third .ensures)))
 
 returns-3 : tie.Need-returns-3
 returns-3 c =
     let g = c .before .before .before .args in
-    rw (← (c .before .before .type-of .ensures .0)) (sym (condition-type (g .version) (c .before .before .type-of .result) (c .before .before .type-of .ensures .1) ∙ simp (ne-eqb _ _ (c .before .if1 .left), ne-eqb _ _ (c .if2 .left))))
+    rw (← (c .before .before .type-of .ensures .0)) (sym (condition-type (g .version) (c .before .before .type-of .result) ∙ simp (ne-eqb _ _ (c .before .if1 .left), ne-eqb _ _ (c .if2 .left))))
 
 pub condition-typed-spec : {M : Type 1} → statement M
 condition-typed-spec =

@@ -1,4 +1,3 @@
-use Rattle.paper.specs.Notation.{holds}
 use borrow.Author.Needs.{needs}
 use Rattle.versions.proofs.counter_only.Statement.{statement}
 use Rattle.versions.proofs.counter_only.Tie as tie
@@ -16,19 +15,15 @@ enum-told-4 : tie.Need-enum-told-4
 enum-told-4 c = search needs
 
 returns : tie.Need-returns
-unfolding holds
 returns c = rw (c .enum-told .given .1)
 
 returns-2 : tie.Need-returns-2
-unfolding holds
 returns-2 c = rw (c .enum-told2 .given .1)
 
 returns-3 : tie.Need-returns-3
-unfolding holds
 returns-3 c = rw (c .enum-told3 .given .1)
 
 returns-4 : tie.Need-returns-4
-unfolding holds
 returns-4 c = rw (c .enum-told4 .given .1)
 
 pub counter-only-spec : {M : Type 1} → statement M

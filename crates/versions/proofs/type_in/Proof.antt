@@ -1,4 +1,4 @@
-use Rattle.paper.specs.Notation.{holds}
+use Rattle.versions.specs.Sets.{holds}
 use borrow.Author.Needs.{needs}
 use Rattle.versions.proofs.type_in.Statement.{statement}
 use Rattle.versions.proofs.type_in.Tie as tie

@@ -2,6 +2,7 @@ use mathlib.Core.Bool.{true}
 use native.Mathlib.Omega.{arith}
 use Rattle.opcodes.specs.Places.{decoded}
 use Rattle.writing.proofs.Row.{order-within, row-start, predicate-fits, behind-size, behind-put, behind-false, behind-few}
+use Rattle.opcodes.proofs.Places.{predicate-place}
 use borrow.Author.Needs.{needs}
 use Rattle.writing.proofs.put_behind.Statement.{statement}
 use Rattle.writing.proofs.put_behind.Tie as tie
@@ -31,12 +32,12 @@ part-put-operand-end c = search needs
 
 put-operand-requires : tie.Need-put-operand-requires
 put-operand-requires c κs = let s = c .before .before .before .before .before .before .before .before in
-    predicate-fits (decoded (s .args .places)) (s .args .t4) (s .args .room .now) _ 0 _ (rw (c .before .before .if1 .taken) at (s .pre .fits)) (c .before .before .before .before .before .put-row .ensures .0) (c .before .before .before .before .before .put-row .ensures .1)
+    rw predicate-place (predicate-fits (decoded (s .args .places)) (s .args .t4) (s .args .room .now) _ 0 _ (rw (c .before .before .if1 .taken) at (s .pre .fits)) (c .before .before .before .before .before .put-row .ensures .0) (c .before .before .before .before .before .put-row .ensures .1))
 
 add-result : tie.Need-add-result
 add-result c = let s = c .before .before .before .before .before .before .before .before .before .before .before in
     let put = c .before .before .put-operand in
-    let size = behind-size (decoded (s .args .places)) (s .args .t4) (s .args .room .now) _ (put .result) _ (rw (c .before .before .before .before .before .if1 .taken) at (s .pre .fits)) (c .before .before .before .before .before .before .before .before .put-row .ensures .0) (c .before .before .before .before .before .before .before .before .put-row .ensures .1) _ (put .ensures .0) (put .ensures .1) in
+    let size = behind-size (decoded (s .args .places)) (s .args .t4) (s .args .room .now) _ (put .result) _ (rw (c .before .before .before .before .before .if1 .taken) at (s .pre .fits)) (c .before .before .before .before .before .before .before .before .put-row .ensures .0) (c .before .before .before .before .before .before .before .before .put-row .ensures .1) _ (rw predicate-place at (put .ensures .0)) (rw predicate-place at (put .ensures .1)) in
     omega (arith, s .pre .fits, behind-few (decoded (s .args .places)) true (s .args .t4), s .pre .few)
 
 same-length : tie.Need-same-length
@@ -48,8 +49,8 @@ returns c = let s = c .before .before .before .before .before .before .before .b
     let fits = rw (c .before .before .before .before .before .if1 .taken) at (s .pre .fits) in
     let row = c .before .before .before .before .before .before .before .before .put-row in
     rw (c .before .before .before .before .before .if1 .taken) (
-      behind-size (decoded (s .args .places)) (s .args .t4) (s .args .room .now) _ (put .result) _ fits (row .ensures .0) (row .ensures .1) _ (put .ensures .0) (put .ensures .1),
-      behind-put (decoded (s .args .places)) (s .args .t4) (s .args .room .now) _ (put .result) _ fits (row .ensures .0) (row .ensures .1) _ (put .ensures .0) (put .ensures .1),
+      behind-size (decoded (s .args .places)) (s .args .t4) (s .args .room .now) _ (put .result) _ fits (row .ensures .0) (row .ensures .1) _ (rw predicate-place at (put .ensures .0)) (rw predicate-place at (put .ensures .1)),
+      behind-put (decoded (s .args .places)) (s .args .t4) (s .args .room .now) _ (put .result) _ fits (row .ensures .0) (row .ensures .1) _ (rw predicate-place at (put .ensures .0)) (rw predicate-place at (put .ensures .1)),
     )
 
 same-length-2 : tie.Need-same-length-2

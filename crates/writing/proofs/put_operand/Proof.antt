@@ -4,6 +4,8 @@ use lib.ListN.{length, length-set, length-drop}
 use Rattle.writer.specs.Tokens.{operandTokens}
 use Rattle.writing.proofs.Paste.{words-length, part-end, stored-words, two-words, length-front}
 use Rattle.writing.proofs.Row.{raw-operand, two-operand, one-operand, operand-some}
+use Rattle.opcodes.specs.Places.{placeBy}
+use Rattle.opcodes.proofs.PlaceKinds.{raw-by}
 use borrow.Author.Needs.{needs}
 use Rattle.writing.proofs.put_operand.Statement.{statement}
 use Rattle.writing.proofs.put_operand.Tie as tie
@@ -13,14 +15,14 @@ raw-token-requires c κs = search needs
 
 slice-write-room : tie.Need-slice-write-room
 slice-write-room c = let s = c .before .before .before in
-    omega (arith, ap length (raw-operand (s .args .place) (s .args .operand) (c .before .if1 .taken)), s .pre)
+    omega (arith, ap length (raw-operand (placeBy (s .args .place)) (s .args .operand) (raw-by (s .args .place) ∙ c .before .if1 .taken)), s .pre)
 
 same-length : tie.Need-same-length
 same-length c = search needs
 
 returns : tie.Need-returns
 returns c = let s = c .before .before .before in
-    let tokens = raw-operand (s .args .place) (s .args .operand) (c .before .if1 .taken) in
+    let tokens = raw-operand (placeBy (s .args .place)) (s .args .operand) (raw-by (s .args .place) ∙ c .before .if1 .taken) in
     (sym (ap length tokens), stored-words (s .args .room .now) _ _ (s .args .operand .raw) (omega (arith, ap length tokens, s .pre)) (c .raw-token .ensures) tokens)
 
 operand-token-requires : tie.Need-operand-token-requires
@@ -28,15 +30,15 @@ operand-token-requires c κs = search needs
 
 slice-write-room-2 : tie.Need-slice-write-room-2
 slice-write-room-2 c = let s = c .before .before .before in
-    omega (arith, operand-some (s .args .place) (s .args .operand), s .pre)
+    omega (arith, operand-some (placeBy (s .args .place)) (s .args .operand), s .pre)
 
 sub-put-token : tie.Need-sub-put-token
 sub-put-token c = let s = c .before .before .before .before .before in
-    simp length-set (omega (arith, operand-some (s .args .place) (s .args .operand), s .pre))
+    simp length-set (omega (arith, operand-some (placeBy (s .args .place)) (s .args .operand), s .pre))
 
 part-put-token-start : tie.Need-part-put-token-start
 part-put-token-start c = let s = c .before .before .before .before .before in
-    simp length-set (omega (arith, operand-some (s .args .place) (s .args .operand), s .pre))
+    simp length-set (omega (arith, operand-some (placeBy (s .args .place)) (s .args .operand), s .pre))
 
 part-put-token-end : tie.Need-part-put-token-end
 part-put-token-end c = search needs
@@ -46,18 +48,18 @@ relative-token-requires c κs = search needs
 
 put-token-requires : tie.Need-put-token-requires
 put-token-requires c κs = let s = c .before .before .before .before .before .before .before in
-    let tokens = two-operand (s .args .place) (s .args .operand) (c .before .before .before .before .before .if1 .left) (c .before .before .if2 .taken) in
+    let tokens = two-operand (placeBy (s .args .place)) (s .args .operand) (raw-by (s .args .place) ∙ c .before .before .before .before .before .if1 .left) (c .before .before .if2 .taken) in
     rw part-end (simp (length-drop, length-set) (omega (arith, ap length tokens, s .pre)))
 
 same-length-2 : tie.Need-same-length-2
 same-length-2 c = let s = c .before .before .before .before .before .before .before .before .before .before in
-    let tokens = two-operand (s .args .place) (s .args .operand) (c .before .before .before .before .before .before .before .before .if1 .left) (c .before .before .before .before .before .if2 .taken) in
+    let tokens = two-operand (placeBy (s .args .place)) (s .args .operand) (raw-by (s .args .place) ∙ c .before .before .before .before .before .before .before .before .if1 .left) (c .before .before .before .before .before .if2 .taken) in
     ap length (two-words (s .args .room .now) _ _ _ _ _ _ (omega (arith, ap length tokens, s .pre)) (c .before .before .before .before .before .before .before .operand-token .ensures) (c .before .before .before .relative-token .ensures) tokens (c .before .before .put-token .ensures))
-    ∙ length-front (s .args .room .now) _ (omega (arith, words-length (operandTokens (s .args .place) (s .args .operand)), s .pre))
+    ∙ length-front (s .args .room .now) _ (omega (arith, words-length (operandTokens (placeBy (s .args .place)) (s .args .operand)), s .pre))
 
 returns-2 : tie.Need-returns-2
 returns-2 c = let s = c .before .before .before .before .before .before .before .before .before .before in
-    let tokens = two-operand (s .args .place) (s .args .operand) (c .before .before .before .before .before .before .before .before .if1 .left) (c .before .before .before .before .before .if2 .taken) in
+    let tokens = two-operand (placeBy (s .args .place)) (s .args .operand) (raw-by (s .args .place) ∙ c .before .before .before .before .before .before .before .before .if1 .left) (c .before .before .before .before .before .if2 .taken) in
     (sym (ap length tokens), two-words (s .args .room .now) _ _ _ _ _ _ (omega (arith, ap length tokens, s .pre)) (c .before .before .before .before .before .before .before .operand-token .ensures) (c .before .before .before .relative-token .ensures) tokens (c .before .before .put-token .ensures))
 
 same-length-3 : tie.Need-same-length-3
@@ -65,7 +67,7 @@ same-length-3 c = search needs
 
 returns-3 : tie.Need-returns-3
 returns-3 c = let s = c .before .before .before .before .before in
-    let tokens = one-operand (s .args .place) (s .args .operand) (c .before .before .before .if1 .left) (c .if2 .left) in
+    let tokens = one-operand (placeBy (s .args .place)) (s .args .operand) (raw-by (s .args .place) ∙ c .before .before .before .if1 .left) (c .if2 .left) in
     (sym (ap length tokens), stored-words (s .args .room .now) _ _ _ (omega (arith, ap length tokens, s .pre)) (c .before .before .operand-token .ensures) tokens)
 
 pub put-operand-spec : {M : Type 1} → statement M

@@ -1,13 +1,10 @@
 use Prim.Native.Nat.{ℕ, suc, _-_, _%_, _^_, _≤_}
 use mathlib.Core.Path.{_≡_, refl, sym, ap}
-use mathlib.Core.Bool.{Bool, not, _&&_}
+use mathlib.Core.Bool.{Bool}
 use mathlib.Core.List.{List, []}
 use lib.Dec.{eqb}
-use Rattle.paper.specs.Notation.{pick}
-use Rattle.paper.specs.OpcodeTable.{DCL}
 use Rattle.opcodes.specs.Places.{decoded}
-use Rattle.opcodes.specs.Shape.{digits, shapeOf}
-use Rattle.records.specs.Record.{declaredPlaces}
+use Rattle.opcodes.specs.Shape.{shapeOf}
 use Rattle.writer.specs.Tokens.{tokensOf}
 use Rattle.writing.specs.Row.{behindTokens}
 use native.Mathlib.Omega.{arith}
@@ -22,11 +19,11 @@ use Rattle.writing.proofs.put_record.Tie as tie
 some : (c : tie.Else2) → shapeOf (c .before .before .before .before .before .args .version) (c .before .before .before .before .before .args .instruction .opcode) ≡ 0 → ⊥
 some c = rw (c .before .shape-of .ensures) at (c .if2 .left)
 
-are : (c : tie.After-places-of) → c .places-of .result ≡ pick (eqb (c .before .before .before .before .before .before .args .instruction .opcode) DCL) (digits declaredPlaces) (shapeOf (c .before .before .before .before .before .before .args .version) (c .before .before .before .before .before .before .args .instruction .opcode) % 2 ^ 35)
+are : (c : tie.After-places-of) → c .places-of .result ≡ shapeOf (c .before .before .before .before .before .before .args .version) (c .before .before .before .before .before .before .args .instruction .opcode) % 2 ^ 35
 are c = rw (c .before .before .shape-of .ensures) at (c .places-of .ensures)
 
 abbrev marked : tie.Start → Bool
-marked c = eqb (c .args .instruction .predicated) 1 && not (eqb (c .args .instruction .opcode) DCL)
+marked c = eqb (c .args .instruction .predicated) 1
 
 -- the tokens behind the first
 abbrev behind : tie.After-places-of → List ℕ
@@ -65,39 +62,39 @@ places-of-requires : tie.Need-places-of-requires
 places-of-requires c κs = search needs
 
 sub-put-behind : tie.Need-sub-put-behind
-sub-put-behind c = omega (arith, long (c .before .before .before), c .before .before .before .before .before .before .before .before .before .pre .1)
+sub-put-behind c = omega (arith, long (c .before .before), c .before .before .before .before .before .before .before .before .pre .1)
 
 part-put-behind-start : tie.Need-part-put-behind-start
-part-put-behind-start c = omega (arith, long (c .before .before .before), c .before .before .before .before .before .before .before .before .before .pre .1)
+part-put-behind-start c = omega (arith, long (c .before .before), c .before .before .before .before .before .before .before .before .pre .1)
 
 part-put-behind-end : tie.Need-part-put-behind-end
 part-put-behind-end c = search needs
 
 put-behind-requires : tie.Need-put-behind-requires
 put-behind-requires c κs =
-    record { few = few (c .before .before .before .before); fits = rw part-end (simp length-drop (omega (arith, long (c .before .before .before .before), c .before .before .before .before .before .before .before .before .before .before .pre .1))) }
+    record { few = few (c .before .before .before); fits = rw part-end (simp length-drop (omega (arith, long (c .before .before .before), c .before .before .before .before .before .before .before .before .before .pre .1))) }
 
 instruction-token-requires : tie.Need-instruction-token-requires
-instruction-token-requires c κs = omega (arith, small (c .before .before .before .before .before .before .before), c .before .before .put-behind .ensures .0)
+instruction-token-requires c κs = omega (arith, small (c .before .before .before .before .before .before), c .before .before .put-behind .ensures .0)
 
 slice-write-room-2 : tie.Need-slice-write-room-2
 slice-write-room-2 c =
     let put = c .before .before .before .put-behind in
-    let room = c .before .before .before .before .before .before .before .before .before .before .before .before .before .before .args .room .now in
-    mid-some room (put .last .0) (length room - 1) (omega (arith, long (c .before .before .before .before .before .before .before .before), c .before .before .before .before .before .before .before .before .before .before .before .before .before .before .pre .1))
+    let room = c .before .before .before .before .before .before .before .before .before .before .before .before .before .args .room .now in
+    mid-some room (put .last .0) (length room - 1) (omega (arith, long (c .before .before .before .before .before .before .before), c .before .before .before .before .before .before .before .before .before .before .before .before .before .pre .1))
 
 add-result : tie.Need-add-result
-add-result c = omega (arith, small (c .before .before .before .before .before .before .before .before), c .before .before .before .put-behind .ensures .0)
+add-result c = omega (arith, small (c .before .before .before .before .before .before .before), c .before .before .before .put-behind .ensures .0)
 
 same-length-2 : tie.Need-same-length-2
 same-length-2 c = search needs
 
 returns-3 : tie.Need-returns-3
 returns-3 c =
-    let s = c .before .before .before .before .before .before .before .before .before .before .before .before .before .before in
+    let s = c .before .before .before .before .before .before .before .before .before .before .before .before .before in
     let put = c .before .before .before .put-behind in (
-      omega (arith, long (c .before .before .before .before .before .before .before .before), put .ensures .0),
-      record-put (s .args .version) (s .args .instruction) (s .pre .0) (c .before .before .before .before .before .before .before .before .before .before .before .if1 .left) (some (c .before .before .before .before .before .before .before .before .before)) _ (are (c .before .before .before .before .before .before .before .before)) (marked s) refl (s .args .room .now) (put .last .0) (put .result) (c .instruction-token .result) (omega (arith, long (c .before .before .before .before .before .before .before .before), s .pre .1)) (put .ensures .0) (put .ensures .1) (c .instruction-token .ensures),
+      omega (arith, long (c .before .before .before .before .before .before .before), put .ensures .0),
+      record-put (s .args .version) (s .args .instruction) (s .pre .0) (c .before .before .before .before .before .before .before .before .before .before .if1 .left) (some (c .before .before .before .before .before .before .before .before)) _ (are (c .before .before .before .before .before .before .before)) (marked s) refl (s .args .room .now) (put .last .0) (put .result) (c .instruction-token .result) (omega (arith, long (c .before .before .before .before .before .before .before), s .pre .1)) (put .ensures .0) (put .ensures .1) (c .instruction-token .ensures),
     )
 
 pub put-record-spec : {M : Type 1} → statement M

@@ -1,7 +1,7 @@
 use native.Mathlib.Omega.{arith}
 use mathlib.Core.Path.{sym}
 use lib.Seq.{length-take-le}
-use Rattle.writing.specs.Writing.{readsBack}
+use Rattle.writing.specs.Decided.{readsBack}
 use Rattle.writing.proofs.Paste.{front-there, front-taken}
 use Rattle.writing.proofs.Listed.{tokens-few}
 use borrow.Author.Needs.{needs}

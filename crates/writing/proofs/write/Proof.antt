@@ -1,6 +1,7 @@
-use mathlib.Core.Path.{refl, sym, ap, _∙_}
-use Rattle.writing.specs.Writing.{writing, bufferAfter, toldWriting}
+use mathlib.Core.Path.{sym, _∙_}
+use Rattle.writing.specs.Writing.{unnamed}
 use Rattle.writing.proofs.Answers.{version-named}
+use Rattle.writing.proofs.Exactly.{known-writes}
 use borrow.Author.Needs.{needs}
 use Rattle.writing.proofs.write.Statement.{statement}
 use Rattle.writing.proofs.write.Tie as tie
@@ -25,14 +26,17 @@ same-length : tie.Need-same-length
 same-length c = search needs
 
 returns : tie.Need-returns
-unfolding writing bufferAfter
-returns c = let n = sym (c .before .before .before .before .before .before .before .version-of .ensures) ∙ c .before .before .before .before .before .named .given .1 in
-    rw n (ap toldWriting (c .before .before .write-known .ensures .0), c .before .before .write-known .ensures .1)
+returns c =
+    let s = c .before .before .before .before .before .before .before .before .before .before in
+    let g = s .args in
+    let n = sym (c .before .before .before .before .before .before .before .version-of .ensures) ∙ c .before .before .before .before .before .named .given .1 in
+    rw (c .before .before .write-known .ensures .0, c .before .before .write-known .ensures .1)
+    (known-writes (g .version) (g .instruction) (g .body .now) (g .buffer .now) (g .at) _ n)
 
 returns-2 : tie.Need-returns-2
-unfolding writing bufferAfter
-returns-2 c = let n = sym (c .before .before .before .version-of .ensures) ∙ c .before .enum-told .given .1 in
-    rw n (ap toldWriting (c .refused .ensures), refl)
+returns-2 c =
+    let n = sym (c .before .before .before .version-of .ensures) ∙ c .before .enum-told .given .1 in
+    rw (c .refused .ensures) (unnamed n)
 
 pub write-spec : {M : Type 1} → statement M
 write-spec =

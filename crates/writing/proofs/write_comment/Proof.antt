@@ -7,9 +7,9 @@ use lib.ListN.{length, length-drop}
 use borrow.Author.Tests.{not-true, not-false, leb-true}
 use Rattle.writing.specs.declared.Written.the-variants.{Wrote}
 use Rattle.writing.specs.Buffer.{pasted}
-use Rattle.writing.specs.Writing.{yieldedComment, writable}
+use Rattle.writing.specs.Decided.{yieldedComment, writable}
 use Rattle.writing.proofs.Paste.{part-end, part-front}
-use Rattle.writing.proofs.Answers.{refused-record, refused-room, written, wrong-length, comment-writable, comment-sized, comment-short, comment-tokens}
+use Rattle.writing.proofs.Answers.{refused-record, refused-room, yes-written, wrong-length, comment-writable, comment-sized, comment-short, comment-tokens}
 use borrow.Author.Needs.{needs}
 use Rattle.writing.proofs.write_comment.Statement.{statement}
 use Rattle.writing.proofs.write_comment.Tie as tie
@@ -102,7 +102,7 @@ returns-4 c =
     let s = c .before .before .before .before .before .before .before .before .before .before .before in
     let g = s .args in
     let long = comment-sized (g .version) (g .instruction) (s .pre) (g .body .now) in
-    let e = written (g .version) (g .instruction) (g .body .now) (g .buffer .now) (g .at) (can (c .before .before .before .before .before .before)) (rw long (room (c .before .before .before .before))) in
+    let e = yes-written (g .version) (g .instruction) (g .body .now) (g .buffer .now) (g .at) (can (c .before .before .before .before .before .before)) (rw long (room (c .before .before .before .before))) in
     let put = part-front (g .buffer .now) _ _ (g .at) (omega (arith, inside (c .before .before .before .before))) (c .before .before .put-comment .ensures) in
     (sym (e .0 ∙ ap (λ n. Wrote (g .at + n)) long), put ∙ sym (e .1 ∙ ap (pasted (g .buffer .now) (g .at)) (comment-tokens (g .version) (g .instruction) (s .pre) (g .body .now))))
 

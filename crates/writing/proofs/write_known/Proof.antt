@@ -8,9 +8,9 @@ use borrow.Author.Tests.{ne-eqb, not-true, not-false, leb-true}
 use Rattle.paper.specs.InstructionToken.{commentOpcode}
 use Rattle.writer.specs.Tokens.{tokensOf}
 use Rattle.writing.specs.declared.Written.the-variants.{Wrote}
-use Rattle.writing.specs.Writing.{readsBack, writable}
+use Rattle.writing.specs.Decided.{readsBack, writable}
 use Rattle.writing.proofs.Paste.{part-end}
-use Rattle.writing.proofs.Answers.{refused-record, refused-room, written, wrong-body, other-writable, bodiless, tokens-put}
+use Rattle.writing.proofs.Answers.{refused-record, refused-room, yes-written, wrong-body, other-writable, bodiless, tokens-put}
 use borrow.Author.Needs.{needs}
 use Rattle.writing.proofs.write_known.Statement.{statement}
 use Rattle.writing.proofs.write_known.Tie as tie
@@ -112,7 +112,7 @@ returns-5 : tie.Need-returns-5
 returns-5 c =
     let g = c .before .before .before .before .before .before .before .before .before .before .before .before .before .before .args in
     let long = sized (c .before .before .before .before .before .before) in
-    let e = written (g .known) (g .instruction) (g .body .now) (g .buffer .now) (g .at) (can (c .before .before .before .before .before .before)) (rw long (room (c .before .before .before .before))) in
+    let e = yes-written (g .known) (g .instruction) (g .body .now) (g .buffer .now) (g .at) (can (c .before .before .before .before .before .before)) (rw long (room (c .before .before .before .before))) in
     let put = tokens-put (g .known) (g .instruction) (other (c .before .before .before .before .before .before .before .before .before .before)) (g .body .now) (g .buffer .now) _ (g .at) (yielded (c .before .before .before .before .before .before)) (omega (arith, inside (c .before .before .before .before))) (c .before .before .put-record .ensures .1) in
     (sym (e .0 ∙ ap (λ n. Wrote (g .at + n)) long), put ∙ sym (e .1))
 

@@ -1,0 +1,2 @@
+-- The entry that writes leaves one answer.
+pub mod OneAnswer

@@ -1,0 +1,10 @@
+use mathlib.Core.Path.{sym}
+use Rattle.opcodes.proofs.PlaceKinds.{raw-by}
+use Rattle.tokens.proofs.is_raw.Statement.{statement}
+use Rattle.tokens.proofs.is_raw.Tie as tie
+
+returns : tie.Need-returns
+returns c = sym (raw-by (c .args .place))
+
+pub is-raw-spec : {M : Type 1} → statement M
+is-raw-spec = tie.close (tie.spec returns)
