@@ -42,8 +42,13 @@ static int load(const char *name)
     return 0;
 }
 
+/* Exit status: 0 all handed on, 1 a file was refused, 2 a file could not be read, or none was named. */
 int main(int argc, char **argv)
 {
+    if (argc < 2) {
+        fprintf(stderr, "usage: loader FILE...\n");
+        return 2;
+    }
     int status = 0;
     for (int k = 1; k < argc; k++) {
         const int one = load(argv[k]);
