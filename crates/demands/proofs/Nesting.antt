@@ -1,0 +1,195 @@
+-- BLOCK and DEPTH, from the verdict of a stream to the grammar and back.
+use Prim.Native.Nat.{ℕ, suc, _+_, _≤_, _<_}
+use mathlib.Core.Path.{_≡_, refl, ap, sym, _∙_}
+use mathlib.Core.Bool.{Bool, true, false}
+use mathlib.Core.List.{List, [], _∷_, _++_}
+use native.Mathlib.Omega.{arith}
+use lib.ListN.{length, drop, getD}
+use Rattle.paper.specs.Notation.{pick}
+use Rattle.paper.specs.Numbers.{numberOf, refusal}
+use Rattle.paper.specs.Versions.{named}
+use Rattle.paper.specs.Instruction.{judged}
+use Rattle.paper.specs.Blocks.{then, mostOpen}
+use Rattle.paper.specs.Walk.{Kind, go, bad, step}
+use Rattle.paper.specs.Stream.{cutFrom, lengthLaid, verdict}
+use Rattle.paper.specs.declared.Version.{Version}
+use Rattle.paper.specs.declared.Named.the-variants.{Known}
+use Rattle.paper.specs.declared.Reason.{Reason}
+use Rattle.paper.specs.declared.Reason.the-variants.{Length as LENGTH, Version as VERSION, RunOut as RUN-OUT, Block as BLOCK, Depth as DEPTH, Tail as TAIL}
+use Rattle.paper.specs.declared.Refusal.{Refusal}
+use Rattle.paper.specs.declared.Class.{Class}
+use Rattle.paper.specs.declared.Class.the-variants.{One, Opens, Closes}
+use Rattle.paper.specs.declared.Judged.the-variants.{Good}
+use Rattle.paper.specs.declared.Verdict.the-variants.{Refused}
+use Rattle.blocks.specs.Begins.{Leads, nothing, first, Begins, ended, nestingReason, reasonAfter}
+use Rattle.blocks.specs.Reach.{openAfter}
+use Rattle.blocks.proofs.Cutting.{cut-at}
+use Rattle.blocks.proofs.Refused.{open-append, begins-open, begins-none, step-reason}
+use Rattle.walk.proofs.OpenBlocks.{step-few}
+use Rattle.cutting.proofs.OwnTokens.{apart}
+use Rattle.checking.proofs.Whole.{verdict-walked}
+use Rattle.edit.proofs.Standing.{Comes, stays, passes}
+use Rattle.demands.specs.Nesting.{Row, none, next, opens, BreaksAt, blocksOpened, blocksClosed, Nesting}
+use Rattle.demands.proofs.BlocksCounted.{step-count, deep-enough}
+use Rattle.demands.proofs.InstructionReasons.{instruction-reason}
+use Rattle.demands.proofs.WhereRefused.{good-inside, Refusing, runs-out, unlawful, breaks, trails, StreamRefused, for-length, for-version, in-walk, stream-refused, nesting-refused}
+
+-- a good instruction, and what follows it
+cut-good : (v : Version) (s : List ℕ) (p size : ℕ) (class : Class) → judged v (drop p s) ≡ Good size class →
+    cutFrom v s p ≡ then class p (cutFrom v s (p + suc size))
+cut-good v s p size class j =
+    let inside : p < length s = omega (arith, good-inside v s p size class j) in
+    cut-at v s p inside ∙ rw j
+
+-- a row of instructions leads the cut
+row-leads : {v : Version} {s : List ℕ} {p q : ℕ} {cs : List Class} → Row v s p cs q → Leads cs (cutFrom v s p) (cutFrom v s q)
+row-leads none = nothing
+row-leads {v} {s} (next {p = p} {size = size} {class = class} j r) = rw (cut-good v s p size class j) (first (row-leads r))
+
+-- what a walk passes is a row, which leaves open the blocks that the walk has open
+pub record Passed (v : Version) (s : List ℕ) (p : ℕ) (ks : List Kind) (q : ℕ) (ls : List Kind) : Type 0 where
+  pub classes : List Class
+  pub row : Row v s p classes q
+  pub leaves : openAfter ks classes ≡ go ls
+  pub counted : length ls + blocksClosed classes ≡ length ks + blocksOpened classes
+  pub few : length ks ≤ mostOpen → length ls ≤ mostOpen
+
+comes-row : {v : Version} {s : List ℕ} {p q : ℕ} {ks ls : List Kind} → Comes v s p ks q ls → Passed v s p ks q ls
+unfolding openAfter
+comes-row stays = record { classes = []; row = none; leaves = refl; counted = refl; few = λ h. h }
+comes-row (passes {class = class} {ks = ks} {ls = ls} {ms = ms} j e h c) =
+    let r = comes-row c in
+    record {
+      classes = class ∷ r .classes;
+      row = next j (r .row);
+      leaves = rw e (r .leaves);
+      counted = step-count class ks ls (length ms) (r .classes) e (r .counted);
+      few = λ l. r .few (step-few ks ls class l e);
+    }
+
+-- the reason of a nesting, and whether it is at an opener
+abbrev reasonOf : Bool → Reason
+reasonOf true = DEPTH
+reasonOf false = BLOCK
+
+nesting-by : (class : Class) → nestingReason class ≡ reasonOf (opens class)
+nesting-by (One s) = refl
+nesting-by (Opens o) = refl
+nesting-by (Closes c) = refl
+
+never-tail : (opener : Bool) → reasonOf opener ≡ TAIL → ⊥
+never-tail true e = apart (cc)
+never-tail false e = apart (cc)
+
+same-opener : (a b : Bool) → reasonOf a ≡ reasonOf b → a ≡ b
+same-opener true true e = refl
+same-opener true false e = apart (cc)
+same-opener false true e = apart (cc)
+same-opener false false e = refl
+
+-- a reason of the nesting is that of no other refusal
+module _ (opener : Bool) where
+  other : (x : Reason) → numberOf x < 9 → x ≡ reasonOf opener → ⊥
+  other x few e = this opener (ap numberOf e)
+    where
+      this : (o : Bool) → numberOf x ≡ numberOf (reasonOf o) → ⊥
+      this true f = omega arith
+      this false f = omega arith
+
+-- a nesting that the walk refuses breaks there
+module _ (s : List ℕ) (p : ℕ) (opener : Bool) (answer : verdict s ≡ Refused (refusal (reasonOf opener) p)) (v : Version)
+    (laid : lengthLaid (length s) ≡ true) (known : named (getD s 0 0) ≡ Known v) where
+  not-ended : (test : Bool) (class : Class) → pick test TAIL (nestingReason class) ≡ reasonOf opener → test ≡ false
+  not-ended true class e = absurd (never-tail opener (sym e))
+  not-ended false class e = refl
+
+  module _ (ks : List Kind) (size : ℕ) (class : Class) (came : Comes v s 1 [] p ks) (good : judged v (drop p s) ≡ Good size class)
+      (refused : step ks class ≡ bad (reasonOf opener)) where
+    passed : Passed v s 1 [] p ks
+    passed = comes-row came
+
+    none-begins : Begins (passed .classes ++ class ∷ []) → ⊥
+    unfolding openAfter
+    none-begins =
+        begins-none (passed .classes ++ class ∷ []) (reasonOf opener) (open-append (passed .classes) (class ∷ []) [] ks (passed .leaves) ∙ rw refused)
+
+    begun : Begins (passed .classes)
+    begun = begins-open (passed .classes) ks (passed .leaves)
+
+    no-end : ended (passed .classes) ≡ false
+    no-end =
+        let walk = nesting-refused v s (rw (cut-good v s p size class good) at (row-leads (passed .row))) begun none-begins in
+        let both : Refused (refusal (reasonAfter (passed .classes) class) p) ≡ Refused (refusal (reasonOf opener) p) =
+        sym walk ∙ sym (verdict-walked s v laid known) ∙ answer in
+        let same : refusal (reasonAfter (passed .classes) class) p ≡ refusal (reasonOf opener) p = cc in
+        not-ended (ended (passed .classes)) class (ap (λ (r : Refusal). r .reason) same)
+
+    broken : BreaksAt s p opener
+    broken = record {
+      isLong = laid;
+      version = v;
+      isNamed = known;
+      before = passed .classes;
+      areGood = passed .row;
+      haveNoEnd = no-end;
+      begin = begun;
+      size = size;
+      class = class;
+      isGood = good;
+      isOpener = same-opener (opens class) opener (sym (nesting-by class) ∙ sym (step-reason class ks (reasonOf opener) refused));
+      beginNone = none-begins;
+    }
+
+    twenty-four : opener ≡ true → blocksOpened (broken .before) ≡ mostOpen + blocksClosed (broken .before)
+    unfolding broken
+    twenty-four isDepth =
+        let reason : reasonOf opener ≡ DEPTH = ap reasonOf isDepth in
+        let most = passed .few (omega arith) in
+        let least = deep-enough class ks (refused ∙ ap bad reason) in
+        omega (arith, passed .counted)
+
+  abbrev Broken : Type 0
+  Broken = (b : BreaksAt s p opener) × (opener ≡ true → blocksOpened (b .before) ≡ mostOpen + blocksClosed (b .before))
+
+  by-walk : {r : Refusal} → Refusing v s 1 [] r → r ≡ refusal (reasonOf opener) p → Broken
+  by-walk (runs-out c) e = absurd (other opener RUN-OUT (omega arith) (ap (λ (x : Refusal). x .reason) e))
+  by-walk (unlawful {q = q} {r = x} c l j) e =
+      let few = instruction-reason (λ (y : Reason). numberOf y < 9) (omega arith) (omega arith) (omega arith) (omega arith) (omega arith) (omega arith)
+      v (drop q s) x j in
+      absurd (other opener (x .reason) few (ap (λ (y : Refusal). y .reason) e))
+  by-walk (breaks {q = q} {size = size} {class = class} {ls = ls} {reason = reason} c j st) e =
+      let at : q ≡ p = ap (λ (x : Refusal). x .position) e in
+      let why : reason ≡ reasonOf opener = ap (λ (x : Refusal). x .reason) e in
+      let came : Comes v s 1 [] p ls = rw at at c in
+      let good : judged v (drop p s) ≡ Good size class = rw at at j in
+      let refused : step ls class ≡ bad (reasonOf opener) = st ∙ ap bad why in
+      (broken ls size class came good refused, twenty-four ls size class came good refused)
+  by-walk (trails l) e = absurd (never-tail opener (sym (ap (λ (x : Refusal). x .reason) e)))
+
+-- and where a nesting breaks the stream is refused
+module _ (s : List ℕ) (p : ℕ) (opener : Bool) where
+  breaks-refused : BreaksAt s p opener → verdict s ≡ Refused (refusal (reasonOf opener) p)
+  breaks-refused b =
+      let v = b .version in
+      let leads = rw (cut-good v s p (b .size) (b .class) (b .isGood)) at (row-leads (b .areGood)) in
+      let walk = nesting-refused v s leads (b .begin) (b .beginNone) in
+      let why : nestingReason (b .class) ≡ reasonOf opener = nesting-by (b .class) ∙ ap reasonOf (b .isOpener) in
+      verdict-walked s v (b .isLong) (b .isNamed) ∙ walk ∙ rw (b .haveNoEnd, why) refl
+
+  refused-breaks : (answer : verdict s ≡ Refused (refusal (reasonOf opener) p)) →
+      (b : BreaksAt s p opener) × (opener ≡ true → blocksOpened (b .before) ≡ mostOpen + blocksClosed (b .before))
+  refused-breaks answer = this (stream-refused s (refusal (reasonOf opener) p) answer)
+    where
+      this : StreamRefused s (refusal (reasonOf opener) p) →
+          (b : BreaksAt s p opener) × (opener ≡ true → blocksOpened (b .before) ≡ mostOpen + blocksClosed (b .before))
+      this (for-length e) = absurd (other opener LENGTH (omega arith) (ap (λ (x : Refusal). x .reason) e))
+      this (for-version e) = absurd (other opener VERSION (omega arith) (ap (λ (x : Refusal). x .reason) e))
+      this (in-walk v laid known w) = by-walk s p opener answer v laid known w refl
+
+pub nesting : Nesting
+nesting = record {
+  block-breaks = λ s p e. refused-breaks s p false e .0;
+  breaks-block = λ s p b. breaks-refused s p false b;
+  depth-breaks = λ s p e. let b = refused-breaks s p true e in (b .0, b .1 refl);
+  breaks-depth = λ s p b. breaks-refused s p true b;
+}

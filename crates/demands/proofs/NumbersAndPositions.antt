@@ -1,0 +1,99 @@
+-- The numbers and positions of refusals: of one instruction, and of a stream.
+use Prim.Native.Nat.{ℕ, _+_, _≤_}
+use mathlib.Core.Path.{_≡_, refl, subst, sym, _∙_}
+use mathlib.Core.Bool.{Bool, true, false, _||_}
+use mathlib.Core.List.{List, [], _∷_, _++_}
+use native.Mathlib.Omega.{arith}
+use lib.Dec.{eqb}
+use lib.ListN.{length, drop, length-drop}
+use Rattle.paper.specs.Notation.{among}
+use Rattle.paper.specs.Numbers.{numberOf}
+use Rattle.paper.specs.Instruction.{judged}
+use Rattle.paper.specs.Walk.{Kind}
+use Rattle.paper.specs.Stream.{verdict}
+use Rattle.paper.specs.declared.Version.{Version}
+use Rattle.paper.specs.declared.Reason.{Reason}
+use Rattle.paper.specs.declared.Refusal.{Refusal}
+use Rattle.paper.specs.declared.Class.{Class}
+use Rattle.paper.specs.declared.Class.the-variants.{One, Opens, Closes}
+use Rattle.paper.specs.declared.Judged.the-variants.{Refused as Unlawful}
+use Rattle.paper.specs.declared.Verdict.the-variants.{Refused}
+use Rattle.blocks.specs.Begins.{nestingReason}
+use Rattle.blocks.proofs.Refused.{step-reason}
+use Rattle.cutting.proofs.OwnTokens.{apart}
+use Rattle.checking.proofs.Within.{judged-within}
+use Rattle.demands.specs.Demand1.{readNumbers, checkNumbers, atStart, Numbered}
+use Rattle.demands.proofs.InstructionReasons.{instruction-reason}
+use Rattle.demands.proofs.WhereRefused.{good-inside, Refusing, runs-out, unlawful, breaks, trails, StreamRefused, for-length, for-version, in-walk, stream-refused}
+
+-- a refusal with one of these numbers, in a stream of so many tokens
+abbrev pub Fits : List ℕ → ℕ → Refusal → Type 0
+Fits numbers tokens r = Numbered numbers tokens (numberOf (r .reason)) (r .position)
+
+-- a number whose position is 0
+pub at-start : (numbers : List ℕ) (tokens number : ℕ) → among number numbers ≡ true → Numbered numbers tokens number 0
+at-start numbers tokens number t = record { isOfTable = t; isWithin = omega arith; isAtStart = λ e. refl }
+
+-- any other number, at a position of the stream or at its token count
+pub at-token : (numbers : List ℕ) (tokens number position : ℕ) → position ≤ tokens → among number numbers ≡ true → among number atStart ≡ false →
+    Numbered numbers tokens number position
+at-token numbers tokens number position h t f =
+    record { isOfTable = t; isWithin = h; isAtStart = λ e. let z : false ≡ true = sym f ∙ e in apart (cc) }
+
+-- a number of a list is one of a longer list
+among-more : (more : List ℕ) (number : ℕ) (numbers : List ℕ) → among number numbers ≡ true → among number (numbers ++ more) ≡ true
+among-more more number [] e = apart (cc)
+among-more more number (x ∷ xs) e = this (eqb number x) e (among-more more number xs)
+  where
+    this : (test : Bool) → test || among number xs ≡ true → (among number xs ≡ true → among number (xs ++ more) ≡ true) →
+        test || among number (xs ++ more) ≡ true
+    this true f later = refl
+    this false f later = later f
+
+pub widened : (numbers more : List ℕ) {tokens number position : ℕ} → Numbered numbers tokens number position → Numbered (numbers ++ more) tokens number position
+widened numbers more {number = number} n = record {
+  isOfTable = among-more more number numbers (n .isOfTable);
+  isWithin = n .isWithin;
+  isAtStart = n .isAtStart;
+}
+
+-- one instruction
+pub instruction-fits : (v : Version) (own : List ℕ) (r : Refusal) → judged v own ≡ Unlawful r → (tokens position : ℕ) → position ≤ tokens →
+    Numbered readNumbers tokens (numberOf (r .reason)) position
+instruction-fits v own r e tokens position h =
+    instruction-reason (λ (reason : Reason). Numbered readNumbers tokens (numberOf reason) position) (told 3 refl refl) (told 4 refl refl)
+    (told 5 refl refl) (told 6 refl refl) (told 7 refl refl) (told 8 refl refl) v own r e
+  where
+    told : (number : ℕ) → among number readNumbers ≡ true → among number atStart ≡ false → Numbered readNumbers tokens number position
+    told number t f = at-token readNumbers tokens number position h t f
+
+-- a refused instruction's position is at most the token count
+pub refused-inside : (v : Version) (s : List ℕ) (p : ℕ) (r : Refusal) → p ≤ length s → judged v (drop p s) ≡ Unlawful r → p + r .position ≤ length s
+refused-inside v s p r h j =
+    let near : r .position ≤ length (drop p s) = rw j at (judged-within v (drop p s)) in
+    omega (arith, length-drop p s)
+
+-- a nesting
+nesting-fits : (class : Class) (tokens position : ℕ) → position ≤ tokens → Numbered checkNumbers tokens (numberOf (nestingReason class)) position
+nesting-fits (One s) tokens position h = at-token checkNumbers tokens 9 position h refl refl
+nesting-fits (Opens o) tokens position h = at-token checkNumbers tokens 10 position h refl refl
+nesting-fits (Closes c) tokens position h = at-token checkNumbers tokens 9 position h refl refl
+
+-- a walk
+walk-fits : {v : Version} {s : List ℕ} {p : ℕ} {ks : List Kind} {r : Refusal} → Refusing v s p ks r → Fits checkNumbers (length s) r
+walk-fits {s = s} (runs-out c) = at-token checkNumbers (length s) 5 (length s) (omega arith) refl refl
+walk-fits {v} {s} (unlawful {q = q} {r = r} c l j) =
+    widened readNumbers (9 ∷ 10 ∷ 11 ∷ [])
+    (instruction-fits v (drop q s) r j (length s) (q + r .position) (refused-inside v s q r (omega arith) j))
+walk-fits {v} {s} (breaks {q = q} {size = size} {class = class} {ls = ls} {reason = reason} c j st) =
+    rw (step-reason class ls reason st) (nesting-fits class (length s) q (omega (arith, good-inside v s q size class j)))
+walk-fits {s = s} (trails {q = q} l) = at-token checkNumbers (length s) 11 q (omega arith) refl refl
+
+-- a stream
+pub check-fits : (s : List ℕ) (r : Refusal) → verdict s ≡ Refused r → Fits checkNumbers (length s) r
+check-fits s r e = this (stream-refused s r e)
+  where
+    this : StreamRefused s r → Fits checkNumbers (length s) r
+    this (for-length f) = subst (Fits checkNumbers (length s)) f (at-start checkNumbers (length s) 1 refl)
+    this (for-version f) = subst (Fits checkNumbers (length s)) f (at-start checkNumbers (length s) 2 refl)
+    this (in-walk v laid known w) = walk-fits w
