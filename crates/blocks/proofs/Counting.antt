@@ -14,7 +14,7 @@ use Rattle.paper.specs.declared.Class.the-variants.{One, Opens, Closes}
 use Rattle.paper.specs.declared.Single.the-variants.{Comment, Plain, Break, Label, Return}
 use Rattle.paper.specs.declared.Closer.{Closer}
 use Rattle.paper.specs.declared.Closer.the-variants.{Else, EndIf, EndLoop, EndRep, End}
-use Rattle.blocks.specs.Nesting.{nesting, count}
+use Rattle.blocks.specs.Nesting.{nesting, countOf}
 use Rattle.blocks.specs.Begins.{endsStream}
 use Rattle.blocks.proofs.Derived.{never, is-end}
 use Rattle.blocks.proofs.Refused.{says}
@@ -40,29 +40,29 @@ end-uncounted (Opens o) n e = never e
 end-uncounted (Closes c) n e = ap (λ (d : Closer). counts (Closes d) n) (is-end c e)
 
 -- behind it nothing is counted: tokens there are TAIL
-finished : (n m : ℕ) (a : Cut) → m ≡ n + count a → atEnd n a ≡ atEnd m a
-unfolding count
+finished : (n m : ℕ) (a : Cut) → m ≡ n + countOf a → atEnd n a ≡ atEnd m a
+unfolding countOf
 finished n m (out p) e = ap (λ k. atEnd k (out p)) (omega (arith, e))
 finished n m (wrong p r) e = refl
 finished n m (then c p a) e = refl
 
 module _ (n : ℕ) (c : Class) (p : ℕ) (a : Cut)
-    (later : (m : ℕ) (ks : List Kind) → walk m a ks ≡ nesting (m + count a) a ks) where
+    (later : (m : ℕ) (ks : List Kind) → walk m a ks ≡ nesting (m + countOf a) a ks) where
   past-one : (ks : List Kind) (x : Next) → step ks c ≡ x →
-      onNext x n p a (λ next. walk (counts c n) a next) ≡ onNext x (n + counts c (count a)) p a (λ next. nesting (n + counts c (count a)) a next)
-  past-one ks (go ls) e = later (counts c n) ls ∙ ap (λ k. nesting k a ls) (sym (counts-add c n (count a)))
+      onNext x n p a (λ next. walk (counts c n) a next) ≡ onNext x (n + counts c (countOf a)) p a (λ next. nesting (n + counts c (countOf a)) a next)
+  past-one ks (go ls) e = later (counts c n) ls ∙ ap (λ k. nesting k a ls) (sym (counts-add c n (countOf a)))
   past-one ks (bad reason) e = refl
   past-one ks finish e =
       let ends : endsStream c ≡ true = rw e at (says c ks) in
-      finished n (n + counts c (count a)) a (ap (λ k. n + k) (end-uncounted c (count a) ends))
+      finished n (n + counts c (countOf a)) a (ap (λ k. n + k) (end-uncounted c (countOf a) ends))
 
-pub walk-counts : (n : ℕ) (a : Cut) (ks : List Kind) → walk n a ks ≡ nesting (n + count a) a ks
-unfolding walk nesting count
+pub walk-counts : (n : ℕ) (a : Cut) (ks : List Kind) → walk n a ks ≡ nesting (n + countOf a) a ks
+unfolding walk nesting countOf
 walk-counts n (out p) ks = refl
 walk-counts n (wrong p r) ks = refl
 walk-counts n (then c p a) ks = past-one n c p a (λ m ls. walk-counts m a ls) ks (step ks c) refl
 
 -- the walk of a stream
-pub walked-nesting : (v : Version) (s : List ℕ) → walked v s ≡ nesting (count (cutFrom v s 1)) (cutFrom v s 1) []
+pub walked-nesting : (v : Version) (s : List ℕ) → walked v s ≡ nesting (countOf (cutFrom v s 1)) (cutFrom v s 1) []
 unfolding walked
-walked-nesting v s = walk-counts 0 (cutFrom v s 1) [] ∙ ap (λ n. nesting n (cutFrom v s 1) []) (zero-add (count (cutFrom v s 1)))
+walked-nesting v s = walk-counts 0 (cutFrom v s 1) [] ∙ ap (λ n. nesting n (cutFrom v s 1) []) (zero-add (countOf (cutFrom v s 1)))

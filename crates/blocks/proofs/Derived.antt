@@ -7,7 +7,7 @@ use lib.Dec.{eqb, ltb}
 use borrow.Author.Tests.{ltb-true, eqb-true}
 use Rattle.paper.specs.Notation.{pick}
 use Rattle.paper.specs.Numbers.{refusal}
-use Rattle.paper.specs.Blocks.{Cut, out, wrong, then, mayStand, loopsIn, closerOf, mostOpen, Body, none, more, Item, one, block, Block, closed, withElse}
+use Rattle.paper.specs.Blocks.{Cut, out, wrong, then, mayStand, loopsIn, closerOf, mostOpen, Body, noItem, more, Item, one, block, Block, closed, withElse}
 use Rattle.paper.specs.Walk.{opened, pastElse, isEndIf, isEnd, closesOpener, closes, elses}
 use Rattle.paper.specs.declared.Class.{Class}
 use Rattle.paper.specs.declared.Class.the-variants.{One, Opens, Closes}
@@ -147,7 +147,7 @@ mutual
   item-derived (suc most) depth loop (Opens o) p a =
       opens-derived depth loop (then (Opens o) p a) p (Descent.block most depth loop o a) (block-derived most depth loop o p a)
       (ltb depth mostOpen) refl
-  item-derived (suc most) depth loop (Closes c) p a = none
+  item-derived (suc most) depth loop (Closes c) p a = noItem
 
   block-derived : (most depth : ℕ) (loop : Bool) (o : Opener) (p : ℕ) (a : Cut) →
       BlockDerived depth loop (then (Opens o) p a) (Descent.block most depth loop o a)

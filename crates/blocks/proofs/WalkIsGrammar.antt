@@ -9,7 +9,7 @@ use lib.ListN.{length}
 use borrow.Author.Tests.{lt-ltb}
 use Rattle.paper.specs.Notation.{pick}
 use Rattle.paper.specs.Numbers.{refusal}
-use Rattle.paper.specs.Blocks.{Cut, out, wrong, then, mayStand, loopsIn, closerOf, mostOpen, Body, none, more, Item, one, block, Block, closed, withElse}
+use Rattle.paper.specs.Blocks.{Cut, out, wrong, then, mayStand, loopsIn, closerOf, mostOpen, Body, noItem, more, Item, one, block, Block, closed, withElse}
 use Rattle.paper.specs.Walk.{Kind, opened, pastElse, inLoop, isEnd, closes, elses, Next, go, bad, finish, onNext, atEnd}
 use Rattle.paper.specs.declared.Class.{Class}
 use Rattle.paper.specs.declared.Class.the-variants.{One, Opens, Closes}
@@ -46,7 +46,7 @@ mutual
 
   walked-body : {depth : ℕ} {loop : Bool} {a b : Cut} → Body depth loop a b → (n : ℕ) (ks : List Kind) → length ks ≡ depth → inLoop ks ≡ loop →
       nesting n a ks ≡ nesting n b ks
-  walked-body none n ks e i = refl
+  walked-body noItem n ks e i = refl
   walked-body (more x y) n ks e i = walked-item x n ks e i ∙ walked-body y n ks e i
 
   walked-item : {depth : ℕ} {loop : Bool} {a b : Cut} → Item depth loop a b → (n : ℕ) (ks : List Kind) → length ks ≡ depth → inLoop ks ≡ loop →

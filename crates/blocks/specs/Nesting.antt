@@ -15,7 +15,7 @@ nesting number (wrong p r) ks = Refused r
 nesting number (then c p rest) ks = onNext (step ks c) number p rest (λ next. nesting number rest next)
 
 -- the instructions of a cut, "comments and END not counted"
-unfoldable pub count : Cut → ℕ
-count (out p) = 0
-count (wrong p r) = 0
-count (then c p rest) = counts c (count rest)
+unfoldable pub countOf : Cut → ℕ
+countOf (out p) = 0
+countOf (wrong p r) = 0
+countOf (then c p rest) = counts c (countOf rest)

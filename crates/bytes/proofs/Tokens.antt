@@ -6,10 +6,10 @@ use native.Mathlib.Numerals.{add-one}
 use native.Mathlib.Omega.{arith}
 use lib.ListN.{length, take, drop, getD, set, length-drop}
 use lib.Seq.{take-suc, take-suc-set, getD-drop}
-use Rattle.bytes.specs.Bytes.{tokensOf, tokenAt}
+use Rattle.bytes.specs.Bytes.{tokensIn, tokenIn}
 
-pub tokens-at : (bytes : List ℕ) (k : ℕ) → 4 * k + 3 < length bytes → (k < length (tokensOf bytes)) × (getD (tokensOf bytes) k 0 ≡ tokenAt bytes k)
-unfolding tokensOf
+pub tokens-at : (bytes : List ℕ) (k : ℕ) → 4 * k + 3 < length bytes → (k < length (tokensIn bytes)) × (getD (tokensIn bytes) k 0 ≡ tokenIn bytes k)
+unfolding tokensIn
 tokens-at [] k h = absurd (omega arith)
 tokens-at (b0 ∷ []) k h = absurd (omega arith)
 tokens-at (b0 ∷ b1 ∷ []) k h = absurd (omega arith)
@@ -23,8 +23,8 @@ tokens-at (b0 ∷ b1 ∷ b2 ∷ b3 ∷ rest) (suc k) h =
     let e3 : 4 * suc k + 3 ≡ suc (suc (suc (suc (4 * k + 3)))) = omega arith in
     (omega (arith, later .0), rw (e1, e2, e3, e0) (later .1))
 
-pub tokens-length : (bytes : List ℕ) (n : ℕ) → length bytes ≡ 4 * n → length (tokensOf bytes) ≡ n
-unfolding tokensOf
+pub tokens-length : (bytes : List ℕ) (n : ℕ) → length bytes ≡ 4 * n → length (tokensIn bytes) ≡ n
+unfolding tokensIn
 tokens-length [] n h = omega arith
 tokens-length (b0 ∷ []) n h = absurd (omega arith)
 tokens-length (b0 ∷ b1 ∷ []) n h = absurd (omega arith)
@@ -33,9 +33,9 @@ tokens-length (b0 ∷ b1 ∷ b2 ∷ b3 ∷ rest) n h = omega (arith, tokens-leng
 
 -- one token more at the front of a window
 pub window-more : (window bytes : List ℕ) (from k : ℕ) → k < length window → 4 * (from + k) + 3 < length bytes →
-    take k window ≡ take k (drop from (tokensOf bytes)) →
-    take (k + 1) (set window k (tokenAt bytes (from + k))) ≡ take (k + 1) (drop from (tokensOf bytes))
+    take k window ≡ take k (drop from (tokensIn bytes)) →
+    take (k + 1) (set window k (tokenIn bytes (from + k))) ≡ take (k + 1) (drop from (tokensIn bytes))
 window-more window bytes from k h g e =
     let token = tokens-at bytes (from + k) g in
-    let there : k < length (drop from (tokensOf bytes)) = omega (arith, token .0, length-drop from (tokensOf bytes)) in
-    rw (add-one k, take-suc-set window k (tokenAt bytes (from + k)) h, take-suc (drop from (tokensOf bytes)) k 0 there, getD-drop from (tokensOf bytes) k 0, token .1, e)
+    let there : k < length (drop from (tokensIn bytes)) = omega (arith, token .0, length-drop from (tokensIn bytes)) in
+    rw (add-one k, take-suc-set window k (tokenIn bytes (from + k)) h, take-suc (drop from (tokensIn bytes)) k 0 there, getD-drop from (tokensIn bytes) k 0, token .1, e)

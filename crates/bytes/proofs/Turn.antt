@@ -28,74 +28,74 @@ use Rattle.walk.specs.Stands.{Stands, Ends, stepAt}
 use Rattle.walk.proofs.Stretching.{stretch-passed, stretch-steps}
 use Rattle.walk.proofs.OnStream.{step-on, step-done, step-refused, ends-accepted, ends-tail, stands-out}
 use Rattle.bytes.specs.declared.View.{View}
-use Rattle.bytes.specs.Bytes.{tokensOf, endsAt}
+use Rattle.bytes.specs.Bytes.{tokensIn, verdictAtEnd}
 use Rattle.bytes.specs.Views.{Within, held, Comes}
 use Rattle.bytes.proofs.Tokens.{tokens-length}
 
 module _ (v : Version) (bytes : List ℕ) (tokens : ℕ) (whole : length bytes ≡ 4 * tokens) where
   -- no token is left where an instruction must start
-  pub bytes-out : (state : State) → Stands v (tokensOf bytes) state → tokens ≤ state .at → walked v (tokensOf bytes) ≡ no-verdict (refusal RUN-OUT tokens)
+  pub bytes-out : (state : State) → Stands v (tokensIn bytes) state → tokens ≤ state .at → walked v (tokensIn bytes) ≡ no-verdict (refusal RUN-OUT tokens)
   bytes-out state h le =
-      rw (tokens-length bytes tokens whole) at (stands-out v (tokensOf bytes) state h (omega (arith, tokens-length bytes tokens whole)))
+      rw (tokens-length bytes tokens whole) at (stands-out v (tokensIn bytes) state h (omega (arith, tokens-length bytes tokens whole)))
 
   -- the verdict behind the END that finishes the stream
-  pub ends-is : (state : State) → Ends v (tokensOf bytes) state → endsAt state tokens ≡ walked v (tokensOf bytes)
+  pub ends-is : (state : State) → Ends v (tokensIn bytes) state → verdictAtEnd state tokens ≡ walked v (tokensIn bytes)
   ends-is state h = by-order (ltb (state .at) tokens) refl
     where
-      by-order : (b : Bool) → ltb (state .at) tokens ≡ b → endsAt state tokens ≡ walked v (tokensOf bytes)
+      by-order : (b : Bool) → ltb (state .at) tokens ≡ b → verdictAtEnd state tokens ≡ walked v (tokensIn bytes)
       by-order true e =
-          rw e (sym (ends-tail v (tokensOf bytes) state h (omega (arith, ltb-true (state .at) tokens e, tokens-length bytes tokens whole))))
+          rw e (sym (ends-tail v (tokensIn bytes) state h (omega (arith, ltb-true (state .at) tokens e, tokens-length bytes tokens whole))))
       by-order false e =
-          rw e (sym (ends-accepted v (tokensOf bytes) state h (omega (arith, ltb-false (state .at) tokens e, tokens-length bytes tokens whole))))
+          rw e (sym (ends-accepted v (tokensIn bytes) state h (omega (arith, ltb-false (state .at) tokens e, tokens-length bytes tokens whole))))
 
-  module _ (fits : tokens < 2 ^ 64) (view : View) (within : Within tokens view) (part : List ℕ) (is : part ≡ held (tokensOf bytes) view) where
+  module _ (fits : tokens < 2 ^ 64) (view : View) (within : Within tokens view) (part : List ℕ) (is : part ≡ held (tokensIn bytes) view) where
     -- what is told in the part is of the stream's instruction there
     told-there : (q : ℕ) → q < view .until - view .start →
-        toldAt v part (tokens - (view .start + view .held)) q ≡ judgedNumber (judged v (drop (view .start + q) (tokensOf bytes)))
+        toldAt v part (tokens - (view .start + view .held)) q ≡ judgedNumber (judged v (drop (view .start + q) (tokensIn bytes)))
     told-there q h =
         let long = tokens-length bytes tokens whole in
         let inside = within .inside in
         let begins = within .begins in
         rw is
         (⊎-elim
-        (λ all. told-end v (tokensOf bytes) (view .start) (view .held) (tokens - (view .start + view .held)) (omega arith) q (omega arith) (omega arith))
-        (λ far. told-far v (tokensOf bytes) (view .start) (view .held) (tokens - (view .start + view .held)) (omega arith) q (omega arith) (omega arith))
+        (λ all. told-end v (tokensIn bytes) (view .start) (view .held) (tokens - (view .start + view .held)) (omega arith) q (omega arith) (omega arith))
+        (λ far. told-far v (tokensIn bytes) (view .start) (view .held) (tokens - (view .start + view .held)) (omega arith) q (omega arith) (omega arith))
         (within .enough))
 
-    module _ (state : State) (stands : Stands v (tokensOf bytes) state) (after : view .start ≤ state .at) (before : state .at < view .until) where
+    module _ (state : State) (stands : Stands v (tokensIn bytes) state) (after : view .start ≤ state .at) (before : state .at < view .until) where
       -- the walk stands at the end of a stretch of the part, and steps over the instruction there
       module _ (r : Stretch) (stretched : Stretched v part (state .at - view .start) (view .until - view .start) (tokens - (view .start + view .held)) r) where
-        long : length (tokensOf bytes) ≡ tokens
+        long : length (tokensIn bytes) ≡ tokens
         long = tokens-length bytes tokens whole
 
-        pub view-there : Stands v (tokensOf bytes) (stateOf (view .start + r .at) (state .count + r .count) (state .kinds)) × (state .at - view .start ≤ r .at) × (r .at < view .until - view .start)
+        pub view-there : Stands v (tokensIn bytes) (stateOf (view .start + r .at) (state .count + r .count) (state .kinds)) × (state .at - view .start ≤ r .at) × (r .at < view .until - view .start)
         view-there =
-            stretch-passed v (tokensOf bytes) part (tokens - (view .start + view .held)) (view .until - view .start) (λ q. view .start + q) (λ q k. omega arith)
+            stretch-passed v (tokensIn bytes) part (tokens - (view .start + view .held)) (view .until - view .start) (λ q. view .start + q) (λ q k. omega arith)
             (λ q h. omega (arith, within .inside, within .begins, long)) told-there (omega (arith, long)) state stands (state .at - view .start) (omega arith) (omega arith) r stretched
 
-        view-inside : view .start + r .at < length (tokensOf bytes)
+        view-inside : view .start + r .at < length (tokensIn bytes)
         view-inside = omega (arith, view-there .2, within .inside, within .begins, long)
 
         module _ (x : Stepped) (e : x ≡ onJudged (judgedFrom (r .told)) (stateOf (view .start + r .at) (state .count + r .count) (state .kinds))) where
-          steps : stepAt v (tokensOf bytes) (stateOf (view .start + r .at) (state .count + r .count) (state .kinds)) ≡ x
+          steps : stepAt v (tokensIn bytes) (stateOf (view .start + r .at) (state .count + r .count) (state .kinds)) ≡ x
           steps =
-              stretch-steps v (tokensOf bytes) part (tokens - (view .start + view .held)) (view .until - view .start) (λ q. view .start + q) (λ q k. omega arith)
+              stretch-steps v (tokensIn bytes) part (tokens - (view .start + view .held)) (view .until - view .start) (λ q. view .start + q) (λ q k. omega arith)
               (λ q h. omega (arith, within .inside, within .begins, long)) told-there (omega (arith, long)) state stands (state .at - view .start) (omega arith) (omega arith) r stretched
               x e
 
-          view-by : (y : Stepped) → x ≡ y → Comes v (tokensOf bytes) (state .at + 1) y
+          view-by : (y : Stepped) → x ≡ y → Comes v (tokensIn bytes) (state .at + 1) y
           view-by (On next) f =
               let on =
-              step-on v (tokensOf bytes) (stateOf (view .start + r .at) (state .count + r .count) (state .kinds)) (view-there .0) view-inside (omega (arith, long)) next
+              step-on v (tokensIn bytes) (stateOf (view .start + r .at) (state .count + r .count) (state .kinds)) (view-there .0) view-inside (omega (arith, long)) next
               (steps ∙ f) in
               (on .0, omega (arith, on .1, view-there .1))
           view-by (Done next) f =
-              step-done v (tokensOf bytes) (stateOf (view .start + r .at) (state .count + r .count) (state .kinds)) (view-there .0) view-inside (omega (arith, long)) next
+              step-done v (tokensIn bytes) (stateOf (view .start + r .at) (state .count + r .count) (state .kinds)) (view-there .0) view-inside (omega (arith, long)) next
               (steps ∙ f)
           view-by (Refused q) f =
-              step-refused v (tokensOf bytes) (stateOf (view .start + r .at) (state .count + r .count) (state .kinds)) (view-there .0) view-inside (omega (arith, long)) q
+              step-refused v (tokensIn bytes) (stateOf (view .start + r .at) (state .count + r .count) (state .kinds)) (view-there .0) view-inside (omega (arith, long)) q
               (steps ∙ f)
 
           -- behind this state, behind the END that finishes the stream, or to a refusal
-          pub view-comes : Comes v (tokensOf bytes) (state .at + 1) x
+          pub view-comes : Comes v (tokensIn bytes) (state .at + 1) x
           view-comes = view-by x refl

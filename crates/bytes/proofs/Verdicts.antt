@@ -11,7 +11,7 @@ use Rattle.paper.specs.Versions.{named}
 use Rattle.paper.specs.Stream.{verdict, walked, onNamed, mostTokens}
 use Rattle.paper.specs.declared.Reason.the-variants.{Length as LENGTH}
 use Rattle.paper.specs.declared.Verdict.the-variants.{Refused}
-use Rattle.bytes.specs.Bytes.{tokensOf, tokenAt, bytesVerdict}
+use Rattle.bytes.specs.Bytes.{tokensIn, tokenIn, bytesVerdict}
 use Rattle.bytes.proofs.Tokens.{tokens-at, tokens-length}
 
 module _ (bytes : List ℕ) where
@@ -40,7 +40,7 @@ module _ (bytes : List ℕ) where
           )
 
       pub verdict-named : length bytes / 4 ≤ mostTokens →
-          bytesVerdict bytes ≡ onNamed (named (tokenAt bytes 0)) (λ v. walked v (tokensOf bytes))
+          bytesVerdict bytes ≡ onNamed (named (tokenIn bytes 0)) (λ v. walked v (tokensIn bytes))
       unfolding bytesVerdict verdict
       verdict-named le =
           rw (

@@ -16,21 +16,21 @@ abbrev pub littleEndian : ℕ → ℕ → ℕ → ℕ → ℕ
 littleEndian b0 b1 b2 b3 = b0 + 0x100 * b1 + 0x10000 * b2 + 0x1000000 * b3
 
 -- fewer than four bytes at the end are no token
-unfoldable pub tokensOf : List ℕ → List ℕ
-tokensOf [] = []
-tokensOf (b0 ∷ []) = []
-tokensOf (b0 ∷ b1 ∷ []) = []
-tokensOf (b0 ∷ b1 ∷ b2 ∷ []) = []
-tokensOf (b0 ∷ b1 ∷ b2 ∷ b3 ∷ rest) = littleEndian b0 b1 b2 b3 ∷ tokensOf rest
+unfoldable pub tokensIn : List ℕ → List ℕ
+tokensIn [] = []
+tokensIn (b0 ∷ []) = []
+tokensIn (b0 ∷ b1 ∷ []) = []
+tokensIn (b0 ∷ b1 ∷ b2 ∷ []) = []
+tokensIn (b0 ∷ b1 ∷ b2 ∷ b3 ∷ rest) = littleEndian b0 b1 b2 b3 ∷ tokensIn rest
 
 -- the token at a place
-abbrev pub tokenAt : List ℕ → ℕ → ℕ
-tokenAt bytes at = littleEndian (getD bytes (4 * at) 0) (getD bytes (4 * at + 1) 0) (getD bytes (4 * at + 2) 0) (getD bytes (4 * at + 3) 0)
+abbrev pub tokenIn : List ℕ → ℕ → ℕ
+tokenIn bytes at = littleEndian (getD bytes (4 * at) 0) (getD bytes (4 * at + 1) 0) (getD bytes (4 * at + 2) 0) (getD bytes (4 * at + 3) 0)
 
 -- LENGTH: "bytes not a multiple of 4"
 unfoldable pub bytesVerdict : List ℕ → Verdict
-bytesVerdict bytes = pick (eqb (length bytes % 4) 0) (verdict (tokensOf bytes)) (Refused (refusal LENGTH 0))
+bytesVerdict bytes = pick (eqb (length bytes % 4) 0) (verdict (tokensIn bytes)) (Refused (refusal LENGTH 0))
 
 -- behind the END that finishes a stream: "TAIL: tokens after END"
-abbrev pub endsAt : State → ℕ → Verdict
-endsAt state tokens = pick (ltb (state .at) tokens) (Refused (refusal TAIL (state .at))) (Accepted (state .count))
+abbrev pub verdictAtEnd : State → ℕ → Verdict
+verdictAtEnd state tokens = pick (ltb (state .at) tokens) (Refused (refusal TAIL (state .at))) (Accepted (state .count))

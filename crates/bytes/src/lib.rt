@@ -5,7 +5,7 @@ ghost use lib.ListN.{length, take, drop};
 ghost use Rattle.paper.specs.Numbers.{told, refusal};
 ghost use Rattle.paper.specs.Stream.{walked};
 ghost use Rattle.walk.specs.Stands.{Stands};
-ghost use Rattle.bytes.specs.Bytes.{tokenAt, tokensOf, endsAt, bytesVerdict};
+ghost use Rattle.bytes.specs.Bytes.{tokenIn, tokensIn, verdictAtEnd, bytesVerdict};
 ghost use Rattle.bytes.specs.Views.{Within, held as heldOf, Comes};
 use paper::Named;
 use paper::Reason;
@@ -33,7 +33,7 @@ fn wide(byte: u8) -> u32
 // The token at `at`, read from its four bytes.
 fn token_at(bytes: &[u8], at: usize) -> u32
     requires { ⌜ 4 * at + 3 < length (now bytes) ⌝ }
-    ensures { λ r. ⌜ r ≡ tokenAt (now (bytes .entry)) at ⌝ }
+    ensures { λ r. ⌜ r ≡ tokenIn (now (bytes .entry)) at ⌝ }
 {
     let lowest = 4 * at;
     let b0 = wide(bytes[lowest]);
@@ -46,7 +46,7 @@ fn token_at(bytes: &[u8], at: usize) -> u32
 // The `n` tokens from `from` on, at the front of a window.
 fn fill(window: &mut [u32], bytes: &[u8], from: usize, n: usize)
     requires { ⌜ (n ≤ length (now window)) × (4 * (from + n) ≤ length (now bytes)) ⌝ }
-    ensures { λ _. ⌜ take n (now (window .exit)) ≡ take n (drop from (tokensOf (now (bytes .entry)))) ⌝ }
+    ensures { λ _. ⌜ take n (now (window .exit)) ≡ take n (drop from (tokensIn (now (bytes .entry)))) ⌝ }
 {
     let mut k = 0;
     while k < n {
@@ -63,7 +63,7 @@ fn refused(reason: Reason, position: usize) -> Verdict
 
 // Behind the END that finishes a stream of `tokens` tokens.
 fn conclude(state: State, tokens: usize) -> Verdict
-    ensures { λ r. ⌜ r ≡ endsAt state tokens ⌝ }
+    ensures { λ r. ⌜ r ≡ verdictAtEnd state tokens ⌝ }
 {
     if state.at < tokens {
         return refused(Reason::Tail, state.at);
@@ -108,8 +108,8 @@ fn walk_view(
     view: View,
     from: State,
 ) -> Stepped
-    requires { ⌜ (length (now bytes) ≡ 4 * tokens) × (now part ≡ heldOf (tokensOf (now bytes)) view) × Within tokens view × Stands version (tokensOf (now bytes)) from × (view .start ≤ from .at) × (from .at < view .until) ⌝ }
-    ensures { λ r. ⌜ Comes version (tokensOf (now (bytes .entry))) (view .until) r ⌝ }
+    requires { ⌜ (length (now bytes) ≡ 4 * tokens) × (now part ≡ heldOf (tokensIn (now bytes)) view) × Within tokens view × Stands version (tokensIn (now bytes)) from × (view .start ≤ from .at) × (from .at < view .until) ⌝ }
+    ensures { λ r. ⌜ Comes version (tokensIn (now (bytes .entry))) (view .until) r ⌝ }
 {
     let beyond = tokens - (view.start + view.held);
     let stop = view.until - view.start;
@@ -142,7 +142,7 @@ fn walk_view(
 // The walk of a stream, from behind its version on: a window is filled with a part of it, and filled again where that ends.
 fn walk_bytes(version: Version, bytes: &[u8], tokens: usize) -> Verdict
     requires { ⌜ (1 ≤ tokens) × (length (now bytes) ≡ 4 * tokens) ⌝ }
-    ensures { λ r. ⌜ r ≡ walked version (tokensOf (now (bytes .entry))) ⌝ }
+    ensures { λ r. ⌜ r ≡ walked version (tokensIn (now (bytes .entry))) ⌝ }
 {
     let mut window = [0u32; WINDOW];
     let mut state = State {

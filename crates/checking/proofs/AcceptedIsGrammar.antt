@@ -14,7 +14,7 @@ use Rattle.paper.specs.declared.Named.the-variants.{Known, Unknown}
 use Rattle.paper.specs.declared.Refusal.{Refusal}
 use Rattle.paper.specs.declared.Verdict.the-variants.{Accepted, Refused}
 use Rattle.blocks.proofs.WalkIsGrammar.{accepts, accepted}
-use Rattle.blocks.specs.Nesting.{count}
+use Rattle.blocks.specs.Nesting.{countOf}
 use Rattle.blocks.proofs.Counting.{walked-nesting}
 use Rattle.checking.specs.Accepted.{Grammatical}
 use Rattle.checking.proofs.Whole.{verdict-length, verdict-version, verdict-walked}
@@ -27,7 +27,7 @@ module _ (stream : List ℕ) (n : ℕ) where
   walked-accepted : (v : Version) → lengthLaid (length stream) ≡ true → named (getD stream 0 0) ≡ Known v → walked v stream ≡ Accepted n →
       Grammatical stream n
   walked-accepted v laid names e =
-      let given = accepted (count (cutFrom v stream 1)) n (cutFrom v stream 1) (sym (walked-nesting v stream) ∙ e) in
+      let given = accepted (countOf (cutFrom v stream 1)) n (cutFrom v stream 1) (sym (walked-nesting v stream) ∙ e) in
       record {
         laid = laid;
         version = v;
@@ -54,7 +54,7 @@ module _ (stream : List ℕ) (n : ℕ) where
   grammar-is-accepted g =
       verdict-walked stream (g .version) (g .laid) (g .names)
       ∙ walked-nesting (g .version) stream
-      ∙ accepts (g .body) (count (cutFrom (g .version) stream 1)) ∙ ap Accepted (sym (g .counted))
+      ∙ accepts (g .body) (countOf (cutFrom (g .version) stream 1)) ∙ ap Accepted (sym (g .counted))
 
   -- the same of what a check tells
   pub told-is-grammar : checked stream ≡ told (Accepted n) → Grammatical stream n

@@ -23,7 +23,7 @@ use Rattle.paper.specs.declared.Reason.the-variants.{Block as BLOCK}
 use Rattle.blocks.specs.Descent
 use Rattle.blocks.specs.Descent.{stopped, broken, passed, refused, onLast, onFirst, bodyOf, blockOf}
 use Rattle.blocks.proofs.Unfold.{block-opened}
-use Rattle.blocks.specs.Nesting.{count}
+use Rattle.blocks.specs.Nesting.{countOf}
 use Rattle.checking.specs.declared.BodyEnd.{BodyEnd}
 use Rattle.checking.specs.declared.BodyEnd.the-variants.{Stopped, Broken}
 use Rattle.checking.specs.declared.ItemEnd.{ItemEnd}
@@ -104,7 +104,7 @@ module _ (v : Version) (s : List ℕ) (o : Opener) (at : ℕ) where
   last-end (Stopped c p next n) = rw (own-test o c) (either-end (closes c (opened o)) p next n)
   last-end (Broken r) = refl
 
-  module _ (m place k : ℕ) (after : at ≤ place) (same : k + count (cutFrom v s place) ≡ m + count (cutFrom v s at)) where
+  module _ (m place k : ℕ) (after : at ≤ place) (same : k + countOf (cutFrom v s place) ≡ m + countOf (cutFrom v s at)) where
     closed-within : (c : Closer) (p next n : ℕ) → Stops v s place k c p next n → (test : Bool) → closes c (opened o) ≡ test →
         BlockWithin v s at m (pick test (Passed next (n + 1)) (Refused (refusal BLOCK p)))
     closed-within c p next n h true e =
@@ -112,7 +112,7 @@ module _ (v : Version) (s : List ℕ) (o : Opener) (at : ℕ) where
           after = omega (arith, h .after, h .closer);
           inside = h .inside;
           few = omega (arith, h .few, h .closer);
-          counted = omega (arith, h .counted, own-counts o c e (count (cutFrom v s next)));
+          counted = omega (arith, h .counted, own-counts o c e (countOf (cutFrom v s next)));
         }
     closed-within c p next n h false e = tt
 
@@ -168,5 +168,5 @@ module _ (depth : ℕ) (inLoop : Bool) (o : Opener) {v : Version} {s : List ℕ}
               last-end v s o at second ∙ only .1 (bodyEnd v s second) ∙ ap (onLast pastElse) (rw (add-one depth) at (k .is)) ∙ at-closer true t;
           within =
               last-within v s o at m next (n + 1) (omega (arith, stops .after, stops .closer))
-              (omega (arith, stops .counted, only .0 (count (cutFrom v s next)))) second (k .within);
+              (omega (arith, stops .counted, only .0 (countOf (cutFrom v s next)))) second (k .within);
         })

@@ -13,13 +13,13 @@ use Rattle.paper.specs.declared.Closer.{Closer}
 use Rattle.paper.specs.declared.Refusal.{Refusal}
 use Rattle.blocks.specs.Descent.{onItem, bodyOf}
 use Rattle.blocks.proofs.Unfold.{body-out, body-wrong, body-then}
-use Rattle.blocks.specs.Nesting.{count}
-use Rattle.stretches.specs.Stretch.{toldAt, isPlain, nextAt, Leads, here, past}
+use Rattle.blocks.specs.Nesting.{countOf}
+use Rattle.stretches.specs.Stretch.{toldAt, isPlain, nextAt, PlainTo, here, past}
 use Rattle.stretches.proofs.Stretches.{plain-from}
 use Rattle.checking.specs.declared.BodyEnd.the-variants.{Stopped, Broken}
 use Rattle.checking.specs.declared.ItemEnd.{ItemEnd}
 use Rattle.checking.specs.declared.ItemEnd.the-variants.{Passed, Closer as Closed, Refused}
-use Rattle.checking.specs.Ends.{itemEnd, itemAt, Begins, Onward, Stops, ItemWithin, BodyIs, ItemIs}
+use Rattle.checking.specs.Ends.{itemEnd, itemAt, StartsAt, Onward, Stops, ItemWithin, BodyIs, ItemIs}
 use Rattle.checking.proofs.ItemEnds.{item-passed}
 
 -- a body is its first item and the rest
@@ -34,10 +34,10 @@ pub record Reached (v : Version) (s : List ℕ) (depth : ℕ) (inLoop : Bool) (a
   pub inside : place ≤ length s
   pub few : n ≤ place
   pub same : bodyOf depth inLoop (cutFrom v s place) ≡ bodyOf depth inLoop (cutFrom v s at)
-  pub counted : n + count (cutFrom v s place) ≡ m + count (cutFrom v s at)
+  pub counted : n + countOf (cutFrom v s place) ≡ m + countOf (cutFrom v s at)
 
 module _ {v : Version} {s : List ℕ} {depth : ℕ} {inLoop : Bool} {at m : ℕ} where
-  pub reached : Begins s depth at m → Reached v s depth inLoop at m at m
+  pub reached : StartsAt s depth at m → Reached v s depth inLoop at m at m
   reached h = record { after = omega arith; inside = h .starts; few = h .few; same = refl; counted = refl }
 
   module _ {place n : ℕ} (g : Reached v s depth inLoop at m place n) {r : ItemEnd} (h : ItemIs v s depth inLoop place n r) where
@@ -78,13 +78,13 @@ module _ {v : Version} {s : List ℕ} {depth : ℕ} {inLoop : Bool} {at m : ℕ}
     body-broken {f} e = record { is = further (Refused f) e; within = tt }
 
 -- a stretch leads on
-pub leads-on : {v : Version} {s : List ℕ} {beyond stop start at n : ℕ} → Leads v s beyond stop start at n → start ≤ at
+pub leads-on : {v : Version} {s : List ℕ} {beyond stop start at n : ℕ} → PlainTo v s beyond stop start at n → start ≤ at
 leads-on here = omega arith
 leads-on (past l plain before) = omega (arith, leads-on l)
 
 -- a body passes a plain instruction wherever it stands, and so a stretch of them
-module _ {v : Version} {s : List ℕ} {depth : ℕ} {inLoop : Bool} {at m : ℕ} (begun : Begins s depth at m) where
-  pub begins-at : {place n : ℕ} → Reached v s depth inLoop at m place n → Begins s depth place n
+module _ {v : Version} {s : List ℕ} {depth : ℕ} {inLoop : Bool} {at m : ℕ} (begun : StartsAt s depth at m) where
+  pub begins-at : {place n : ℕ} → Reached v s depth inLoop at m place n → StartsAt s depth place n
   begins-at g = record { depths = begun .depths; starts = g .inside; few = g .few }
 
   plain-passed : {place n : ℕ} → Reached v s depth inLoop at m place n → isPlain (toldAt v s 0 place) ≡ true →
@@ -92,7 +92,7 @@ module _ {v : Version} {s : List ℕ} {depth : ℕ} {inLoop : Bool} {at m : ℕ}
   plain-passed {place} {n} g plain =
       reached-on g (item-passed v (begins-at g, refl) refl (plain-from (toldAt v s 0 place) plain) refl refl refl refl) refl
 
-  pub stretch-passed : {start k : ℕ} → Reached v s depth inLoop at m start k → {stop place n : ℕ} → Leads v s 0 stop start place n →
+  pub stretch-passed : {start k : ℕ} → Reached v s depth inLoop at m start k → {stop place n : ℕ} → PlainTo v s 0 stop start place n →
       Reached v s depth inLoop at m place (k + n)
   stretch-passed {start} {k} g here = rw (add-zero k) g
   stretch-passed {start} {k} g (past {n} l plain before) =

@@ -28,14 +28,14 @@ use Rattle.blocks.specs.Descent
 use Rattle.blocks.specs.Descent.{refused, itemOf, blockOf}
 use Rattle.blocks.proofs.Cutting.{cut-none, cut-at}
 use Rattle.blocks.proofs.Unfold.{item-one, item-opens, item-closes}
-use Rattle.blocks.specs.Nesting.{count}
+use Rattle.blocks.specs.Nesting.{countOf}
 use Rattle.told.specs.Numbered.{judgedFrom}
 use Rattle.stretches.specs.Stretch.{toldAt}
 use Rattle.told.proofs.Numbers.{judged-back}
 use Rattle.stretches.proofs.Stretches.{told-whole}
 use Rattle.checking.specs.declared.ItemEnd.{ItemEnd}
 use Rattle.checking.specs.declared.ItemEnd.the-variants.{Passed, Closer as Closed, Refused}
-use Rattle.checking.specs.Ends.{itemAt, Begins, Onward, ItemIs, BlockIs, tallyOf}
+use Rattle.checking.specs.Ends.{itemAt, StartsAt, Onward, ItemIs, BlockIs, tallyOf}
 use Rattle.checking.proofs.Within.{Within, judged-within}
 
 pub zero-test : (n : ℕ) → eqb n 0 ≡ isZero n
@@ -75,7 +75,7 @@ out-is at r e =
     let is : refusal RUN-OUT 0 ≡ r = cc in
     ap (λ n. refused (refusal RUN-OUT n)) (sym (add-zero at)) ∙ ap (λ (x : Refusal). refused (refusal (x .reason) (at + x .position))) is
 
-module _ (v : Version) {s : List ℕ} {depth at m told : ℕ} (begun : Begins s depth at m × (told ≡ toldAt v s 0 at))
+module _ (v : Version) {s : List ℕ} {depth at m told : ℕ} (begun : StartsAt s depth at m × (told ≡ toldAt v s 0 at))
     {j : Judged} (e : j ≡ judgedFrom told) where
   judged-at : j ≡ judged v (drop at s)
   judged-at = e ∙ ap judgedFrom (begun .1 ∙ told-whole v s at) ∙ judged-back (judged v (drop at s))
@@ -95,9 +95,9 @@ module _ (v : Version) {s : List ℕ} {depth at m told : ℕ} (begun : Begins s 
     begins : (inLoop : Bool) → itemAt depth inLoop (cutFrom v s at) ≡ itemOf depth inLoop class at (cutFrom v s (at + 1 + size))
     begins inLoop = ap (itemAt depth inLoop) cut
 
-    counted : count (cutFrom v s at) ≡ counts class (count (cutFrom v s (at + 1 + size)))
-    unfolding count
-    counted = ap count cut
+    counted : countOf (cutFrom v s at) ≡ counts class (countOf (cutFrom v s (at + 1 + size)))
+    unfolding countOf
+    counted = ap countOf cut
 
     pub item-passed : {inLoop b : Bool} {x : Single} {t : ℕ} → class ≡ One x → b ≡ mayStand depth inLoop x → b ≡ true → t ≡ tallyOf x →
         ItemIs v s depth inLoop at m (Passed (at + 1 + size) (m + t))
@@ -108,7 +108,7 @@ module _ (v : Version) {s : List ℕ} {depth at m told : ℕ} (begun : Begins s 
             after = omega arith;
             inside = good-inside;
             few = omega (arith, begun .0 .few, tally-small x k);
-            counted = rw (k, counted, g) (tally-counts x m (count (cutFrom v s (at + 1 + size))));
+            counted = rw (k, counted, g) (tally-counts x m (countOf (cutFrom v s (at + 1 + size))));
           };
         }
 

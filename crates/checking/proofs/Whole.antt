@@ -26,7 +26,7 @@ use Rattle.paper.specs.declared.Verdict.the-variants.{Accepted, Refused}
 use Rattle.blocks.specs.Descent.{stopped, bodyOf, onStream, descended}
 use Rattle.blocks.proofs.Cutting.{cut-none, cut-at}
 use Rattle.blocks.proofs.WalkIsGrammar.{descent-is-walk}
-use Rattle.blocks.specs.Nesting.{count}
+use Rattle.blocks.specs.Nesting.{countOf}
 use Rattle.blocks.proofs.Counting.{walked-nesting}
 use Rattle.checking.specs.declared.BodyEnd.{BodyEnd}
 use Rattle.checking.specs.declared.BodyEnd.the-variants.{Stopped, Broken}
@@ -43,37 +43,37 @@ module _ (v : Version) (s : List ℕ) where
 
   module _ (p next n : ℕ) (h : Stops v s 1 0 End p next n) where
     -- none
-    whole-count : length s ≤ next → n ≡ count (cutFrom v s 1)
-    unfolding count
-    whole-count le = omega (arith, h .counted, ap count (cut-none v s next le))
+    whole-count : length s ≤ next → n ≡ countOf (cutFrom v s 1)
+    unfolding countOf
+    whole-count le = omega (arith, h .counted, ap countOf (cut-none v s next le))
 
     at-end : (test : Bool) → ltb next (length s) ≡ test →
-        pick test (Refused (refusal TAIL next)) (Accepted n) ≡ atEnd (count (cutFrom v s 1)) (cutFrom v s next)
-    at-end true e = sym (tail (count (cutFrom v s 1)) next (ltb-true next (length s) e))
+        pick test (Refused (refusal TAIL next)) (Accepted n) ≡ atEnd (countOf (cutFrom v s 1)) (cutFrom v s next)
+    at-end true e = sym (tail (countOf (cutFrom v s 1)) next (ltb-true next (length s) e))
     at-end false e =
         let le : length s ≤ next = ltb-false next (length s) e in
-        ap Accepted (whole-count le) ∙ sym (ap (atEnd (count (cutFrom v s 1))) (cut-none v s next le))
+        ap Accepted (whole-count le) ∙ sym (ap (atEnd (countOf (cutFrom v s 1))) (cut-none v s next le))
 
   stream-end : (c : Closer) (p next n : ℕ) → Stops v s 1 0 c p next n →
-      ending (length s) c p next n ≡ onStream (count (cutFrom v s 1)) (stopped c p (cutFrom v s next))
+      ending (length s) c p next n ≡ onStream (countOf (cutFrom v s 1)) (stopped c p (cutFrom v s next))
   stream-end Else p next n h = refl
   stream-end EndIf p next n h = refl
   stream-end EndLoop p next n h = refl
   stream-end EndRep p next n h = refl
   stream-end End p next n h = at-end p next n h (ltb next (length s)) refl
 
-  whole : onStream (count (cutFrom v s 1)) (bodyOf 0 false (cutFrom v s 1)) ≡ walked v s
+  whole : onStream (countOf (cutFrom v s 1)) (bodyOf 0 false (cutFrom v s 1)) ≡ walked v s
   unfolding descended
-  whole = descent-is-walk (count (cutFrom v s 1)) (cutFrom v s 1) ∙ sym (walked-nesting v s)
+  whole = descent-is-walk (countOf (cutFrom v s 1)) (cutFrom v s 1) ∙ sym (walked-nesting v s)
 
 module _ {v : Version} {s : List ℕ} {r : BodyEnd} (h : BodyIs v s 0 false 1 0 r) where
   pub stream-stopped : {c : Closer} {p next n : ℕ} → r ≡ Stopped c p next n → ending (length s) c p next n ≡ walked v s
   stream-stopped {c} {p} {next} {n} e =
       stream-end v s c p next n (subst (BodyWithin v s 1 0) e (h .within))
-      ∙ ap (onStream (count (cutFrom v s 1))) (ap (bodyEnd v s) (sym e) ∙ h .is) ∙ whole v s
+      ∙ ap (onStream (countOf (cutFrom v s 1))) (ap (bodyEnd v s) (sym e) ∙ h .is) ∙ whole v s
 
   pub stream-broken : {f : Refusal} → r ≡ Broken f → Refused f ≡ walked v s
-  stream-broken e = ap (onStream (count (cutFrom v s 1))) (ap (bodyEnd v s) (sym e) ∙ h .is) ∙ whole v s
+  stream-broken e = ap (onStream (countOf (cutFrom v s 1))) (ap (bodyEnd v s) (sym e) ∙ h .is) ∙ whole v s
 
 -- the length, and the version that the first token names
 both-left : (a b : Bool) → a && b ≡ true → a ≡ true

@@ -13,7 +13,7 @@ use Rattle.paper.specs.OperandTokens.{tokenAt, bringsRelative, typeOf, leftOver
 use Rattle.paper.specs.Dcl.{declaredAt, usageLaid, onDeclared, declaration}
 use Rattle.paper.specs.InstructionToken.{opcodeOf}
 use Rattle.paper.specs.Blocks.{classOf}
-use Rattle.paper.specs.Instruction.{Head, broken, end, comment, dcl, operation, head, onToken, relativeToken, operand, onTaken, operands, onOperands, within, onHead, judged}
+use Rattle.paper.specs.Instruction.{Head, broken, end, comment, dcl, operation, tokenHead, onToken, relativeToken, operand, onTaken, operands, onOperands, within, byHead, judged}
 use Rattle.paper.specs.declared.Version.{Version}
 use Rattle.paper.specs.declared.Reason.the-variants.{Operand as OPERAND, RunOut as RUN-OUT}
 use Rattle.paper.specs.declared.Class.{Class}
@@ -109,7 +109,7 @@ module _ (rest : List ℕ) where
   on-size size next h true e = h (leb-true size (length rest) e)
   on-size size next h false e = omega arith
 
-  on-head : (v : Version) (said : Head) (class : Class) → Within (suc (length rest)) (onHead v said class rest)
+  on-head : (v : Version) (said : Head) (class : Class) → Within (suc (length rest)) (byHead v said class rest)
   on-head v (broken reason) class = omega arith
   on-head v end class = omega arith
   on-head v (comment n) class = on-size n (Good n (One Comment)) (λ le. omega arith) (leb n (length rest)) refl
@@ -127,4 +127,4 @@ module _ (rest : List ℕ) where
 pub judged-within : (v : Version) (tokens : List ℕ) → Within (length tokens) (judged v tokens)
 unfolding judged
 judged-within v [] = omega arith
-judged-within v (token ∷ rest) = on-head rest v (head v token) (classOf (opcodeOf token))
+judged-within v (token ∷ rest) = on-head rest v (tokenHead v token) (classOf (opcodeOf token))

@@ -11,7 +11,7 @@ use Rattle.paper.specs.declared.Version.{Version}
 use Rattle.paper.specs.declared.Named.the-variants.{Known}
 use Rattle.paper.specs.declared.Class.the-variants.{Closes}
 use Rattle.paper.specs.declared.Closer.the-variants.{End}
-use Rattle.blocks.specs.Nesting.{count}
+use Rattle.blocks.specs.Nesting.{countOf}
 
 -- a lawful length, a version, a body and END with nothing behind, and the number of the instructions
 pub record Grammatical (stream : List ℕ) (n : ℕ) : Type 0 where
@@ -21,4 +21,4 @@ pub record Grammatical (stream : List ℕ) (n : ℕ) : Type 0 where
   pub endsAt : ℕ
   pub upTo : ℕ
   pub body : Body 0 false (cutFrom version stream 1) (then (Closes End) endsAt (out upTo))
-  pub counted : n ≡ count (cutFrom version stream 1)
+  pub counted : n ≡ countOf (cutFrom version stream 1)

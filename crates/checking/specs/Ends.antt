@@ -23,7 +23,7 @@ use Rattle.paper.specs.declared.Verdict.the-variants.{Accepted, Refused as no-v
 use Rattle.blocks.specs.Descent
 use Rattle.blocks.specs.Descent.{stopped, broken, passed, closer, refused, bodyOf, itemOf, blockOf}
 use Rattle.checking.specs.Closers.{closerNumber}
-use Rattle.blocks.specs.Nesting.{count}
+use Rattle.blocks.specs.Nesting.{countOf}
 use Rattle.checking.specs.declared.BodyEnd.{BodyEnd}
 use Rattle.checking.specs.declared.BodyEnd.the-variants.{Stopped, Broken}
 use Rattle.checking.specs.declared.ItemEnd.{ItemEnd}
@@ -46,17 +46,17 @@ itemAt depth inLoop (wrong p r) = refused r
 itemAt depth inLoop (then c p a) = itemOf depth inLoop c p a
 
 -- where a body or an item begins: how many blocks are open, the position, and the count, which the position bounds
-pub record Begins (s : List ℕ) (depth at count : ℕ) : Type 0 where
+pub record StartsAt (s : List ℕ) (depth at countOf : ℕ) : Type 0 where
   pub depths : depth ≤ mostOpen
   pub starts : at ≤ length s
-  pub few : count ≤ at
+  pub few : countOf ≤ at
 
 -- from `at`, with m counted, to `next`, with n counted: the counts are those of the cutting
 pub record Onward (v : Version) (s : List ℕ) (at m next n : ℕ) : Type 0 where
   pub after : at < next
   pub inside : next ≤ length s
   pub few : n ≤ next
-  pub counted : n + count (cutFrom v s next) ≡ m + count (cutFrom v s at)
+  pub counted : n + countOf (cutFrom v s next) ≡ m + countOf (cutFrom v s at)
 
 -- from `at`, with m counted, to the closer c at p, with n counted before it, and behind it to `next`
 pub record Stops (v : Version) (s : List ℕ) (at m : ℕ) (c : Closer) (p next n : ℕ) : Type 0 where
@@ -64,7 +64,7 @@ pub record Stops (v : Version) (s : List ℕ) (at m : ℕ) (c : Closer) (p next 
   pub closer : p < next
   pub inside : next ≤ length s
   pub few : n ≤ p
-  pub counted : n + counts (Closes c) (count (cutFrom v s next)) ≡ m + count (cutFrom v s at)
+  pub counted : n + counts (Closes c) (countOf (cutFrom v s next)) ≡ m + countOf (cutFrom v s at)
 
 abbrev pub BodyWithin : Version → List ℕ → ℕ → ℕ → BodyEnd → Type 0
 BodyWithin v s at m (Stopped c p next n) = Stops v s at m c p next n

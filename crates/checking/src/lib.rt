@@ -7,7 +7,7 @@ ghost use Rattle.paper.specs.Blocks.{mayStand, loopsIn, closerOf};
 ghost use Rattle.checking.specs.Closers.{closerNumber};
 ghost use Rattle.paper.specs.Stream.{walked, checked};
 ghost use Rattle.stretches.specs.Stretch.{toldAt};
-ghost use Rattle.checking.specs.Ends.{Begins, BodyIs, ItemIs, BlockIs, Low, tallyOf, lastEnd, ending};
+ghost use Rattle.checking.specs.Ends.{StartsAt, BodyIs, ItemIs, BlockIs, Low, tallyOf, lastEnd, ending};
 use paper::Class;
 use paper::Closer;
 use paper::Judged;
@@ -147,7 +147,7 @@ fn body(
     depth: usize,
     in_loop: bool,
 ) -> BodyEnd
-    requires { ⌜ Begins (now tokens) depth at count ⌝ }
+    requires { ⌜ StartsAt (now tokens) depth at count ⌝ }
     ensures { λ r. ⌜ BodyIs version (now (tokens .entry)) depth in_loop at count r ⌝ }
 {
     let mut place = at;
@@ -182,7 +182,7 @@ fn item(
     in_loop: bool,
     told: u64,
 ) -> ItemEnd
-    requires { ⌜ Begins (now tokens) depth at count × (told ≡ toldAt version (now tokens) 0 at) ⌝ }
+    requires { ⌜ StartsAt (now tokens) depth at count × (told ≡ toldAt version (now tokens) 0 at) ⌝ }
     ensures { λ r. ⌜ ItemIs version (now (tokens .entry)) depth in_loop at count r ⌝ }
 {
     let judged = told::judged_of(told);
@@ -222,7 +222,7 @@ fn block(
     depth: usize,
     in_loop: bool,
 ) -> ItemEnd
-    requires { ⌜ Begins (now tokens) (depth + 1) at count ⌝ }
+    requires { ⌜ StartsAt (now tokens) (depth + 1) at count ⌝ }
     ensures { λ r. ⌜ BlockIs version (now (tokens .entry)) depth in_loop at count opener r ⌝ }
 {
     let own = own_closer(opener);

@@ -10,7 +10,7 @@ use Rattle.paper.specs.Notation.{pick}
 use Rattle.paper.specs.Numbers.{refusal}
 use Rattle.paper.specs.Versions.{named}
 use Rattle.paper.specs.Instruction.{judged}
-use Rattle.paper.specs.Blocks.{Cut, out, wrong, then, closerOf, Body, none, more, Item, one, block, Block, closed, withElse}
+use Rattle.paper.specs.Blocks.{Cut, out, wrong, then, closerOf, Body, noItem, more, Item, one, block, Block, closed, withElse}
 use Rattle.paper.specs.Stream.{cutOne, cutting, cutFrom, walked, lengthLaid, onNamed, verdict}
 use Rattle.paper.specs.declared.Version.{Version}
 use Rattle.paper.specs.declared.Named.{Named}
@@ -27,7 +27,7 @@ use Rattle.paper.specs.declared.Verdict.the-variants.{Accepted, Refused as no-v
 use Rattle.paper.specs.Walk.{counts}
 use Rattle.blocks.specs.Begins.{endsStream}
 use Rattle.blocks.proofs.WalkIsGrammar.{accepts, accepted}
-use Rattle.blocks.specs.Nesting.{count}
+use Rattle.blocks.specs.Nesting.{countOf}
 use Rattle.blocks.proofs.Counting.{walked-nesting}
 use Rattle.cutting.specs.Cuttings.{joined, Alone, Chunks, last, next, Cutting, cutOf, instructions, LawfulStream}
 use Rattle.cutting.proofs.OwnTokens.{apart, good-within, good-alone}
@@ -63,8 +63,8 @@ unfolding cutFrom
 cut-stream v s chunks classes c = rw (← c .1) (cut-chunks (length (joined chunks)) (c .0) 1 (omega arith))
 
 count-chunks : {v : Version} {chunks : List (List ℕ)} {classes : List Class} → Chunks v chunks classes → (p : ℕ) →
-    count (cutOf chunks classes p) ≡ instructions classes
-unfolding count
+    countOf (cutOf chunks classes p) ≡ instructions classes
+unfolding countOf
 count-chunks (last alone) p = refl
 count-chunks (next {rest = rest} {class = class} alone notEnd tail) p = ap (counts class) (count-chunks tail (p + suc (length rest)))
 
@@ -91,7 +91,7 @@ ends-closer Rep p a e = e
 
 mutual
   ends-body : {depth : ℕ} {inLoop : Bool} {a b : Cut} → Body depth inLoop a b → Ends b → Ends a
-  ends-body none e = e
+  ends-body noItem e = e
   ends-body (more x y) e = ends-item x (ends-body y e)
 
   ends-item : {depth : ℕ} {inLoop : Bool} {a b : Cut} → Item depth inLoop a b → Ends b → Ends a
@@ -172,7 +172,7 @@ module _ (s : List ℕ) (n : ℕ) where
   by-walk : (v : Version) → lengthLaid (length s) ≡ true → named (getD s 0 0) ≡ Known v → walked v s ≡ Accepted n → LawfulStream s n
   unfolding cutFrom
   by-walk v long name e =
-      let w = accepted (count (cutFrom v s 1)) n (cutFrom v s 1) (sym (walked-nesting v s) ∙ e) in
+      let w = accepted (countOf (cutFrom v s 1)) n (cutFrom v s 1) (sym (walked-nesting v s) ∙ e) in
       let c = chunks-of (length (drop 1 s)) v (drop 1 s) 1 (omega arith) (ends-body (w .1 .2) tt) in
       let same = cut-stream v s (c .0) (c .1) (c .2) in
       record {
@@ -183,7 +183,7 @@ module _ (s : List ℕ) (n : ℕ) where
         classes = c .1;
         isCutting = c .2;
         isDerived = rw same at (w .1);
-        isCount = sym (w .0 ∙ ap count same ∙ count-chunks (c .2 .0) 1);
+        isCount = sym (w .0 ∙ ap countOf same ∙ count-chunks (c .2 .0) 1);
       }
 
   by-tests : (long : Bool) → lengthLaid (length s) ≡ long → (name : Named) → named (getD s 0 0) ≡ name →

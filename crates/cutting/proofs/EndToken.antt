@@ -9,7 +9,7 @@ use Rattle.paper.specs.Notation.{pick}
 use Rattle.paper.specs.OpcodeTable
 use Rattle.paper.specs.InstructionToken.{opcodeOf, statedSize, commentLength, isPredicated, withPredicate}
 use Rattle.paper.specs.Dcl.{declaration}
-use Rattle.paper.specs.Instruction.{operands, onOperands, within, onHead, judged}
+use Rattle.paper.specs.Instruction.{operands, onOperands, within, byHead, judged}
 use Rattle.paper.specs.Blocks.{classOf}
 use Rattle.paper.specs.declared.Version.{Version}
 use Rattle.paper.specs.declared.Single.the-variants.{Comment, Break, Label, Return, Plain}
@@ -30,7 +30,7 @@ use Rattle.cutting.proofs.FirstToken.{by-first}
 pub ends-by-token : (v : Version) (first : ℕ) (rest : List ℕ) (class : Class) → Alone v first rest class → isEndToken first ≡ endsStream class
 unfolding judged
 ends-by-token v first rest class =
-    by-first v first (λ h. onHead v h (classOf (opcodeOf first)) rest ≡ Good (length rest) class → isEndToken first ≡ endsStream class)
+    by-first v first (λ h. byHead v h (classOf (opcodeOf first)) rest ≡ Good (length rest) class → isEndToken first ≡ endsStream class)
     (λ reason e. apart (cc))
     (λ c n e. n ∙ ap endsStream (of-comment (within-good (length rest) class (commentLength first) rest (Good (commentLength first) (One Comment)) e .1)))
     (λ c n e. let is : Closes End ≡ class = cc in n ∙ ap endsStream is)

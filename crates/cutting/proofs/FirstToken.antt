@@ -9,7 +9,7 @@ use borrow.Author.Tests.{eqb-true, eqb-false, ne-eqb}
 use Rattle.paper.specs.Notation.{pick}
 use Rattle.paper.specs.OpcodeTable.{DCL}
 use Rattle.paper.specs.InstructionToken.{opcodeOf, statedSize, bitsLaid, commentOpcode, commentLaid, commentLength, endOpcode, endToken, isPredicated, withPredicate}
-use Rattle.paper.specs.Instruction.{Head, broken, end, comment, dcl, operation, headOf, head}
+use Rattle.paper.specs.Instruction.{Head, broken, end, comment, dcl, operation, headOf, tokenHead}
 use Rattle.paper.specs.declared.Version.{Version}
 use Rattle.paper.specs.declared.Reason.{Reason}
 use Rattle.paper.specs.declared.Reason.the-variants.{Opcode as OPCODE, Bits as BITS}
@@ -52,7 +52,7 @@ module _ (v : Version) (token : ℕ) (P : Head → Type 0) (on-broken : (reason 
   by-tests false laid false ended c e n = by-entry (entryOf v (opcodeOf token)) refl c (no-end token (eqb-false (opcodeOf token) endOpcode e))
 
   -- what holds of each thing that a first token can say holds of what this one says
-  pub by-first : P (head v token)
-  unfolding head
+  pub by-first : P (tokenHead v token)
+  unfolding tokenHead
   by-first =
       by-tests (isComment token) (commentLaid token) (eqb (opcodeOf token) endOpcode) (isEndToken token) refl refl refl

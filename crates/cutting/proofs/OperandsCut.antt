@@ -9,7 +9,7 @@ use Rattle.paper.specs.Notation.{pick}
 use Rattle.paper.specs.InstructionToken.{opcodeOf, statedSize, isPredicated, withPredicate}
 use Rattle.paper.specs.OperandTokens.{tokenAt, bringsRelative, typeOf, leftOver, refusedOperands}
 use Rattle.paper.specs.Dcl.{declaration, declaredAt, usageLaid, onDeclared}
-use Rattle.paper.specs.Instruction.{onToken, relativeToken, operand, onTaken, operands, onOperands, within, onHead, judged}
+use Rattle.paper.specs.Instruction.{onToken, relativeToken, operand, onTaken, operands, onOperands, within, byHead, judged}
 use Rattle.paper.specs.Blocks.{classOf}
 use Rattle.paper.specs.declared.Version.{Version}
 use Rattle.paper.specs.declared.Reason.the-variants.{Operand as OPERAND}
@@ -78,7 +78,7 @@ places-right : (v : Version) (first : ℕ) (rest other : List ℕ) (class : Clas
 unfolding judged
 places-right v first rest other class alone =
     by-first v first
-    (λ h. onHead v h (classOf (opcodeOf first)) rest ≡ Good (length rest) class → claim h ≡ length rest →
+    (λ h. byHead v h (classOf (opcodeOf first)) rest ≡ Good (length rest) class → claim h ≡ length rest →
     byPlaces v first (rest ++ other) ≡ length rest)
     (λ reason e k. apart (cc))
     (λ c n e k. rw c k)

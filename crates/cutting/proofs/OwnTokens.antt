@@ -13,7 +13,7 @@ use Rattle.paper.specs.Notation.{pick}
 use Rattle.paper.specs.Numbers.{refusal}
 use Rattle.paper.specs.InstructionToken.{opcodeOf, statedSize, commentLength}
 use Rattle.paper.specs.Dcl.{declaration}
-use Rattle.paper.specs.Instruction.{Head, broken, end, comment, dcl, operation, head, operands, onOperands, within, onHead, judged}
+use Rattle.paper.specs.Instruction.{Head, broken, end, comment, dcl, operation, tokenHead, operands, onOperands, within, byHead, judged}
 use Rattle.paper.specs.Blocks.{classOf}
 use Rattle.paper.specs.declared.Version.{Version}
 use Rattle.paper.specs.declared.Reason.the-variants.{RunOut as RUN-OUT}
@@ -45,7 +45,7 @@ module _ (n : ℕ) (rest other : List ℕ) (there : n ≤ length rest) where
   same-within next = rw (le-leb n (length (take n rest ++ other)) still-there, le-leb n (length rest) there, same-claimed)
 
 same-head : (v : Version) (class : Class) (rest other : List ℕ) (h : Head) → claim h ≤ length rest →
-    onHead v h class (take (claim h) rest ++ other) ≡ onHead v h class rest
+    byHead v h class (take (claim h) rest ++ other) ≡ byHead v h class rest
 same-head v class rest other (broken reason) there = refl
 same-head v class rest other end there = refl
 same-head v class rest other (comment n) there = same-within n rest other there (λ behind. Good n (One Comment))
@@ -53,10 +53,10 @@ same-head v class rest other (dcl n) there = same-within n rest other there (λ 
 same-head v class rest other (operation ps n) there = same-within n rest other there (λ behind. onOperands (operands v ps 1 behind) n class)
 
 -- where the claimed tokens are there, the answer, yes or no, is that of the claimed tokens with anything behind them
-pub own-tokens : (v : Version) (first : ℕ) (rest other : List ℕ) → claim (head v first) ≤ length rest →
-    judged v (first ∷ (take (claim (head v first)) rest ++ other)) ≡ judged v (first ∷ rest)
+pub own-tokens : (v : Version) (first : ℕ) (rest other : List ℕ) → claim (tokenHead v first) ≤ length rest →
+    judged v (first ∷ (take (claim (tokenHead v first)) rest ++ other)) ≡ judged v (first ∷ rest)
 unfolding judged
-own-tokens v first rest other there = same-head v (classOf (opcodeOf first)) rest other (head v first) there
+own-tokens v first rest other there = same-head v (classOf (opcodeOf first)) rest other (tokenHead v first) there
 
 -- a good instruction is as long as its first token claims
 module _ (size : ℕ) (class : Class) where
@@ -80,7 +80,7 @@ module _ (size : ℕ) (class : Class) where
       let f = fit o n c (g .1) in
       (g .0, f .0, f .1, f .2)
 
-  head-good : (v : Version) (c : Class) (h : Head) (rest : List ℕ) → onHead v h c rest ≡ Good size class → (claim h ≡ size) × (claim h ≤ length rest)
+  head-good : (v : Version) (c : Class) (h : Head) (rest : List ℕ) → byHead v h c rest ≡ Good size class → (claim h ≡ size) × (claim h ≤ length rest)
   head-good v c (broken reason) rest e = apart (cc)
   head-good v c end rest e = (cc, omega arith)
   head-good v c (comment n) rest e =
@@ -91,9 +91,9 @@ module _ (size : ℕ) (class : Class) where
   head-good v c (operation ps n) rest e = let g = good-operands (operands v ps 1 (take n rest)) n c rest e in (g .2, g .0)
 
   pub good-claim : (v : Version) (first : ℕ) (rest : List ℕ) → judged v (first ∷ rest) ≡ Good size class →
-      (claim (head v first) ≡ size) × (claim (head v first) ≤ length rest)
+      (claim (tokenHead v first) ≡ size) × (claim (tokenHead v first) ≤ length rest)
   unfolding judged
-  good-claim v first rest e = head-good v (classOf (opcodeOf first)) (head v first) rest e
+  good-claim v first rest e = head-good v (classOf (opcodeOf first)) (tokenHead v first) rest e
 
   -- "a good instruction takes at least one token and only tokens that are there": it takes suc size
   pub good-within : (v : Version) (tokens : List ℕ) → judged v tokens ≡ Good size class → suc size ≤ length tokens
@@ -113,7 +113,7 @@ module _ (size : ℕ) (class : Class) where
 small : (token : ℕ) → statedSize token < 16
 small token = mod-lt (token / 16777216) (lit< tt)
 
-pub sixteen : (v : Version) (token : ℕ) → ((n : ℕ) → head v token ≡ comment n → ⊥) → suc (claim (head v token)) ≤ 16
+pub sixteen : (v : Version) (token : ℕ) → ((n : ℕ) → tokenHead v token ≡ comment n → ⊥) → suc (claim (tokenHead v token)) ≤ 16
 sixteen v token =
     by-first v token (λ h. ((n : ℕ) → h ≡ comment n → ⊥) → suc (claim h) ≤ 16)
     (λ reason none. omega arith)

@@ -4,7 +4,7 @@ use mathlib.Core.Path.{_≡_, _∙_}
 use mathlib.Core.List.{List, _++_}
 use lib.ListN.{length, drop}
 use Rattle.paper.specs.InstructionToken.{opcodeOf}
-use Rattle.paper.specs.Instruction.{onHead, judged}
+use Rattle.paper.specs.Instruction.{byHead, judged}
 use Rattle.paper.specs.Blocks.{classOf}
 use Rattle.paper.specs.declared.Version.{Version}
 use Rattle.paper.specs.declared.Class.{Class}
@@ -25,7 +25,7 @@ size-right : (v : Version) (first : ℕ) (rest other : List ℕ) (class : Class)
 unfolding judged
 size-right v first rest other class alone =
     by-first v first
-    (λ h. onHead v h (classOf (opcodeOf first)) rest ≡ Good (length rest) class → byStatedSize first (rest ++ other) ≡ claim h)
+    (λ h. byHead v h (classOf (opcodeOf first)) rest ≡ Good (length rest) class → byStatedSize first (rest ++ other) ≡ claim h)
     (λ reason e. apart (cc))
     (λ c n e. rw c)
     (λ c n e. rw (c, n))

@@ -33,7 +33,7 @@ use Rattle.checking.proofs.AcceptedIsGrammar.{accepted-is-grammar}
 use Rattle.edit.specs.Boundaries.{standingAt, isBoundary}
 use Rattle.edit.proofs.Standing.{Comes, stays, passes, ahead, standing-comes, reached-standing}
 use Rattle.edit.proofs.SameBlocks.{boundary}
-use Rattle.demands.specs.Reading.{placesOf, boundariesOf, Boundary}
+use Rattle.demands.specs.Reading.{placesRead, boundariesOf, Boundary}
 use Rattle.demands.specs.Demand2.{ReadAsCut}
 use Rattle.demands.proofs.ChunksRead.{judged-here, inside, behind}
 use Rattle.demands.proofs.Demand2.{demand-2}
@@ -153,7 +153,7 @@ module _ (stream : List ℕ) (n : ℕ) (v : Version) (accept : verdict stream �
     where
       stands-at : Boundary stream p → isBoundary (standingAt v stream p) ≡ true
       stands-at b =
-          let places : placesOf (b .all) ≡ boundariesOf (lawful .chunks) 1 = ap placesOf (read .oneReading (b .all) (b .isRead)) ∙ read .areBoundaries in
+          let places : placesRead (b .all) ≡ boundariesOf (lawful .chunks) 1 = ap placesRead (read .oneReading (b .all) (b .isRead)) ∙ read .areBoundaries in
           among-stands v stream derived p (cut .0) 1 (sym (cut .1)) [] here (eqb p 1) refl (rw places at (b .isPlace))
 
       boundary-at : isBoundary (standingAt v stream p) ≡ true → Boundary stream p

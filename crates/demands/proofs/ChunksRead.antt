@@ -9,7 +9,7 @@ use lib.Seq.{take-length, take-at, drop-at, drop-drop, take-append-le}
 use borrow.Author.Tests.{eqb-true, eqb-false, le-leb}
 use Rattle.paper.specs.Versions.{versionToken}
 use Rattle.paper.specs.InstructionToken.{opcodeOf, endOpcode, endToken}
-use Rattle.paper.specs.Instruction.{Head, broken, end, comment, dcl, operation, head, onHead, judged}
+use Rattle.paper.specs.Instruction.{Head, broken, end, comment, dcl, operation, tokenHead, byHead, judged}
 use Rattle.paper.specs.Blocks.{classOf}
 use Rattle.paper.specs.Stream.{mostTokens}
 use Rattle.paper.specs.declared.Version.{Version}
@@ -31,11 +31,11 @@ use Rattle.records.proofs.Laws.{end-record}
 use Rattle.reader.specs.Reading.{got, reading}
 use Rattle.reader.proofs.Laws.{reading-own}
 use Rattle.listing.specs.Listing.{recordsOf}
-use Rattle.writer.specs.Tokens.{bodyOn, bodyOf}
+use Rattle.writer.specs.Tokens.{bodyOn, commentBody}
 use Rattle.writing.specs.Writing.{bodyLength}
 use Rattle.writing.specs.InOrder.{Piece, piecesOf}
 use Rattle.writing.proofs.Readings.{known}
-use Rattle.demands.specs.Reading.{Given, givenAt, ReadUp, ends, goes, placesOf, recordsIn, piecesIn, lastPlace, boundariesOf}
+use Rattle.demands.specs.Reading.{Given, givenAt, ReadUp, ends, goes, placesRead, recordsIn, piecesIn, lastPlace, boundariesOf}
 
 -- a lawful chunk's record is END's exactly if the chunk is END
 module _ (v : Version) (first : ℕ) (rest : List ℕ) where
@@ -43,11 +43,11 @@ module _ (v : Version) (first : ℕ) (rest : List ℕ) where
   end-chunk alone = eqb-true first endToken (ends-by-token v first rest (Closes End) alone)
 
   end-read : Alone v first rest (Closes End) → recordOf v (first ∷ rest) ≡ endRecord
-  unfolding head
+  unfolding tokenHead
   end-read alone = end-record v first rest (rw (end-chunk alone))
 
   module _ {size : ℕ} {class : Class} (no-end : isEndToken first ≡ false) where
-    other-by : (h : Head) (c : Class) → head v first ≡ h → onHead v h c rest ≡ Good size class → recordOn h first rest ≡ endRecord → ⊥
+    other-by : (h : Head) (c : Class) → tokenHead v first ≡ h → byHead v h c rest ≡ Good size class → recordOn h first rest ≡ endRecord → ⊥
     other-by (broken reason) c e j same = apart (cc)
     other-by end c e j same = eqb-false first endToken no-end (is-end v first e)
     other-by (comment n) c e j same = let z = ap (λ (r : Record). r .opcode) same in omega arith
@@ -59,11 +59,11 @@ module _ (v : Version) (first : ℕ) (rest : List ℕ) where
   other-read : {class : Class} → Alone v first rest class → endsStream class ≡ false → recordOf v (first ∷ rest) ≡ endRecord → ⊥
   unfolding judged recordOf
   other-read {class} alone other same =
-      other-by (ends-by-token v first rest class alone ∙ other) (head v first) (classOf (opcodeOf first)) refl alone same
+      other-by (ends-by-token v first rest class alone ∙ other) (tokenHead v first) (classOf (opcodeOf first)) refl alone same
 
 -- the body of a lawful chunk is the tokens behind its first, as many as its record says
 module _ (v : Version) (first : ℕ) (rest other : List ℕ) {size : ℕ} {class : Class} where
-  body-by : (h : Head) (c : Class) → head v first ≡ h → onHead v h c rest ≡ Good size class →
+  body-by : (h : Head) (c : Class) → tokenHead v first ≡ h → byHead v h c rest ≡ Good size class →
       take (bodyLength (recordOn h first rest)) (rest ++ other) ≡ bodyOn h rest
   body-by (broken reason) c e j = refl
   body-by end c e j = refl
@@ -72,16 +72,16 @@ module _ (v : Version) (first : ℕ) (rest other : List ℕ) {size : ℕ} {class
   body-by (dcl n) c e j = rw (is-dcl v first n e .found .no-comment)
   body-by (operation row n) c e j = rw (is-operation v first row n e .found .no-comment)
 
-  body-read : judged v (first ∷ rest) ≡ Good size class → take (bodyLength (recordOf v (first ∷ rest))) (rest ++ other) ≡ bodyOf v (first ∷ rest)
-  unfolding judged recordOf bodyOf
-  body-read j = body-by (head v first) (classOf (opcodeOf first)) refl j
+  body-read : judged v (first ∷ rest) ≡ Good size class → take (bodyLength (recordOf v (first ∷ rest))) (rest ++ other) ≡ commentBody v (first ∷ rest)
+  unfolding judged recordOf commentBody
+  body-read j = body-by (tokenHead v first) (classOf (opcodeOf first)) refl j
 
 -- the instructions of a row of chunks, the first of which begins at a place
 abbrev given : ℕ → Record → List ℕ → Given
 given at r body = record { place = at; instruction = r; body = body }
 
 abbrev givenFrom : Version → List ℕ → ℕ → Given
-givenFrom v chunk at = given at (recordOf v chunk) (bodyOf v chunk)
+givenFrom v chunk at = given at (recordOf v chunk) (commentBody v chunk)
 
 abbrev pub givenOf : Version → List (List ℕ) → ℕ → List Given
 givenOf v [] at = []
@@ -129,7 +129,7 @@ chunks-read {v} (next {first} {rest} {class} {chunks} alone other later) s at he
     (chunks-read later s (at + suc (length rest)) (behind v first rest (joined chunks) alone s at here) few))
 
 -- their places, their records, what is handed to the writer, and the place of END
-pub places-read : (v : Version) (chunks : List (List ℕ)) (at : ℕ) → placesOf (givenOf v chunks at) ≡ boundariesOf chunks at
+pub places-read : (v : Version) (chunks : List (List ℕ)) (at : ℕ) → placesRead (givenOf v chunks at) ≡ boundariesOf chunks at
 places-read v [] at = refl
 places-read v (chunk ∷ chunks) at = ap (λ (ps : List ℕ). at ∷ ps) (places-read v chunks (at + length chunk))
 
@@ -140,12 +140,12 @@ records-read v (chunk ∷ chunks) at = ap (λ (rs : List Record). recordOf v chu
 pub pieces-read : (v : Version) (chunks : List (List ℕ)) (at : ℕ) → piecesIn (givenOf v chunks at) ≡ piecesOf v chunks
 pieces-read v [] at = refl
 pieces-read v (chunk ∷ chunks) at =
-    ap (λ (ps : List Piece). record { instruction = recordOf v chunk; body = bodyOf v chunk } ∷ ps) (pieces-read v chunks (at + length chunk))
+    ap (λ (ps : List Piece). record { instruction = recordOf v chunk; body = commentBody v chunk } ∷ ps) (pieces-read v chunks (at + length chunk))
 
 end-short : (v : Version) (first : ℕ) (rest : List ℕ) → Alone v first rest (Closes End) → length rest ≡ 0
-unfolding head
+unfolding tokenHead
 end-short v first rest alone =
-    let e : head v first ≡ end = rw (end-chunk v first rest alone) in
+    let e : tokenHead v first ≡ end = rw (end-chunk v first rest alone) in
     sym (good-claim (length rest) (Closes End) v first rest alone .0) ∙ ap claim e
 
 last-behind : {v : Version} {chunks : List (List ℕ)} {classes : List Class} → Chunks v chunks classes → (g : Given) (at : ℕ) →

@@ -22,18 +22,18 @@ use Rattle.paper.specs.declared.Judged.{Judged}
 use Rattle.paper.specs.declared.Judged.the-variants.{Good, Refused as Unlawful}
 use Rattle.paper.specs.declared.Verdict.{Verdict}
 use Rattle.paper.specs.declared.Verdict.the-variants.{Accepted, Refused}
-use Rattle.bytes.specs.Bytes.{tokensOf, bytesVerdict}
+use Rattle.bytes.specs.Bytes.{tokensIn, bytesVerdict}
 use Rattle.bytes.proofs.Tokens.{tokens-length}
 use Rattle.bytes.proofs.Verdicts.{quarter}
 use Rattle.records.specs.declared.Record.{Record}
 use Rattle.records.specs.Record.{recordOf}
 use Rattle.reader.specs.declared.Answer.{Answer as Answered}
 use Rattle.reader.specs.declared.Answer.the-variants.{Got, Refused as Unread}
-use Rattle.reader.specs.Reading.{refused, onJudged, readingAt, onVersion, reading}
+use Rattle.reader.specs.Reading.{unread, readJudged, readingAt, onVersion, reading}
 use Rattle.writing.specs.Writing.{ToldWriting, Writes, unnamed, unwritable, cramped, written}
 use Rattle.edit.specs.declared.Edited.{Edited}
 use Rattle.edit.specs.declared.Edited.the-variants.{Joined, Accepted as Edited-in-full, Refused as Unedited}
-use Rattle.edit.specs.Edit.{splice, newLength, placed, fits, meetsAtEnd, onVerdict, spliced, refusedAs, onNamed, edited, editedIn, bufferAfter as editedBuffer}
+use Rattle.edit.specs.Edit.{splice, newLength, placed, fits, meetsAtEnd, onVerdict, spliced, editRefused, editNamed, edited, editedIn, bufferAfter as editedBuffer}
 use Rattle.edit.proofs.Allowed.{Allowed, splice-verdict}
 use Rattle.edit.proofs.BufferHoldsTheSplice.{refused-keeps}
 use Rattle.cutting.proofs.OwnTokens.{apart}
@@ -59,10 +59,10 @@ unfolding bytesVerdict
 bytes-fit bytes r e = this (eqb (length bytes % 4) 0) refl e
   where
     this : (whole : Bool) → eqb (length bytes % 4) 0 ≡ whole →
-        pick whole (verdict (tokensOf bytes)) (Refused (refusal LENGTH 0)) ≡ Refused r → Fits checkNumbers (length bytes / 4) r
+        pick whole (verdict (tokensIn bytes)) (Refused (refusal LENGTH 0)) ≡ Refused r → Fits checkNumbers (length bytes / 4) r
     this true w f =
         let count = tokens-length bytes (length bytes / 4) (quarter bytes (eqb-true (length bytes % 4) 0 w)) in
-        rw count at (check-fits (tokensOf bytes) r f)
+        rw count at (check-fits (tokensIn bytes) r f)
     this false w f = let g : refusal LENGTH 0 ≡ r = cc in subst (Fits checkNumbers (length bytes / 4)) g (at-start checkNumbers (length bytes / 4) 1 refl)
 
 -- the reader
@@ -72,13 +72,13 @@ module _ (tokens : List ℕ) (at : ℕ) where
   AnswerFits (Unread r) = Fits readNumbers (length tokens) r
 
   by-judged : (v : Version) (instruction : Record) → at ≤ length tokens → (judgement : Judged) → judged v (drop at tokens) ≡ judgement →
-      AnswerFits (onJudged judgement at instruction .answer)
+      AnswerFits (readJudged judgement at instruction .answer)
   by-judged v instruction h (Good size class) j = tt
   by-judged v instruction h (Unlawful r) j =
       instruction-fits v (drop at tokens) r j (length tokens) (at + r .position) (refused-inside v tokens at r h j)
 
   by-place : (v : Version) (inside : Bool) → ltb at (length tokens) ≡ inside →
-      AnswerFits (pick inside (onJudged (judged v (drop at tokens)) at (recordOf v (drop at tokens))) (refused RUN-OUT (length tokens)) .answer)
+      AnswerFits (pick inside (readJudged (judged v (drop at tokens)) at (recordOf v (drop at tokens))) (unread RUN-OUT (length tokens)) .answer)
   by-place v true l = by-judged v (recordOf v (drop at tokens)) (omega (arith, ltb-true at (length tokens) l)) (judged v (drop at tokens)) refl
   by-place v false l = at-token readNumbers (length tokens) 5 (length tokens) (omega arith) refl refl
 
@@ -87,7 +87,7 @@ module _ (tokens : List ℕ) (at : ℕ) where
   by-version (Known v) = by-place v (ltb at (length tokens)) refl
   by-version Unknown = at-start readNumbers (length tokens) 2 refl
 
-  by-length : (name : Named) (few : Bool) → AnswerFits (pick few (onVersion name tokens at) (refused LENGTH 0) .answer)
+  by-length : (name : Named) (few : Bool) → AnswerFits (pick few (onVersion name tokens at) (unread LENGTH 0) .answer)
   by-length name true = by-version name
   by-length name false = at-start readNumbers (length tokens) 1 refl
 
@@ -112,7 +112,7 @@ told-writing (written n w fits) = (accepts, λ no. absurd (no refl))
 module _ (r : Refusal) where
   -- an answer that stands behind a test, or the refusal of that test
   tested : (tokens : ℕ) (test : Bool) (next : Edited) (reason : Reason) → Fits editNumbers tokens (refusal reason 0) →
-      (test ≡ true → next ≡ Unedited r → Fits editNumbers tokens r) → pick test next (refusedAs reason) ≡ Unedited r → Fits editNumbers tokens r
+      (test ≡ true → next ≡ Unedited r → Fits editNumbers tokens r) → pick test next (editRefused reason) ≡ Unedited r → Fits editNumbers tokens r
   tested tokens true next reason start later e = later refl e
   tested tokens false next reason start later e = let f : refusal reason 0 ≡ r = cc in subst (Fits editNumbers tokens) f start
 
@@ -134,11 +134,11 @@ module _ (r : Refusal) where
         widened checkNumbers (12 ∷ 13 ∷ []) (check-fits (splice old i j run) r (splice-verdict a ∙ f))
 
     in-version : (name : Named) → named (getD old 0 0) ≡ name → lengthLaid (length old) ≡ true →
-        onNamed name
-        (λ v. pick (placed v old i j) (pick (fits room-of (newLength (length old) i j (length run))) (spliced v old i j run) (refusedAs ROOM)) (refusedAs PLACE))
+        editNamed name
+        (λ v. pick (placed v old i j) (pick (fits room-of (newLength (length old) i j (length run))) (spliced v old i j run) (editRefused ROOM)) (editRefused PLACE))
         ≡ Unedited r → Fits editNumbers (length new) r
     in-version (Known v) known laid e =
-        tested (length new) (placed v old i j) (pick (fits room-of (newLength (length old) i j (length run))) (spliced v old i j run) (refusedAs ROOM)) PLACE
+        tested (length new) (placed v old i j) (pick (fits room-of (newLength (length old) i j (length run))) (spliced v old i j run) (editRefused ROOM)) PLACE
         (start-at 12 refl)
         (λ place.
         tested (length new) (fits room-of (newLength (length old) i j (length run))) (spliced v old i j run) ROOM (start-at 13 refl)

@@ -11,7 +11,7 @@ use Rattle.paper.specs.OpcodeTable.{DCL}
 use Rattle.paper.specs.InstructionToken.{opcodeOf, statedSize, isPredicated, withPredicate, bitsLaid, commentOpcode, commentLength, commentLaid, endOpcode, endToken}
 use Rattle.paper.specs.OperandTokens.{typeOf, laid, typed, layoutThenType, tokenAt, bringsRelative, leftOver, refusedOperands}
 use Rattle.paper.specs.Dcl.{isDeclared, faceLaid, declaredAt, usageLaid, onDeclared, declaration}
-use Rattle.paper.specs.Instruction.{Head, broken, end, comment, dcl, operation, headOf, head, onToken, relativeToken, operand, onTaken, operands, onOperands, onHead, judged}
+use Rattle.paper.specs.Instruction.{Head, broken, end, comment, dcl, operation, headOf, tokenHead, onToken, relativeToken, operand, onTaken, operands, onOperands, byHead, judged}
 use Rattle.paper.specs.Blocks.{classOf}
 use Rattle.paper.specs.declared.Version.{Version}
 use Rattle.paper.specs.declared.Reason.{Reason}
@@ -126,8 +126,8 @@ module _ (P : Reason → Type 0) (opcode : P OPCODE) (bits : P BITS) (run-out : 
       (pick (eqb (opcodeOf token) DCL) (dcl (statedSize token)) (operation (withPredicate (isPredicated token) places) (statedSize token))) (broken BITS)
       (of-pick (eqb (opcodeOf token) DCL) (dcl (statedSize token)) (operation (withPredicate (isPredicated token) places) (statedSize token)) tt tt) bits
 
-  of-head : (v : Version) (token : ℕ) → OfHead (head v token)
-  unfolding head
+  of-head : (v : Version) (token : ℕ) → OfHead (tokenHead v token)
+  unfolding tokenHead
   of-head v token =
       of-pick (eqb (opcodeOf token) commentOpcode) (pick (commentLaid token) (comment (commentLength token)) (broken BITS))
       (pick (eqb (opcodeOf token) endOpcode) (pick (eqb token endToken) end (broken BITS)) (headOf v token (entryOf v (opcodeOf token))))
@@ -144,7 +144,7 @@ module _ (P : Reason → Type 0) (opcode : P OPCODE) (bits : P BITS) (run-out : 
   on-operands Fit n class h = tt
   on-operands (unfit r) n class h = h
 
-  on-head : (v : Version) (h : Head) (class : Class) (rest : List ℕ) → OfHead h → OfJudged (onHead v h class rest)
+  on-head : (v : Version) (h : Head) (class : Class) (rest : List ℕ) → OfHead h → OfJudged (byHead v h class rest)
   on-head v (broken reason) class rest h = h
   on-head v end class rest h = tt
   on-head v (comment n) class rest h = of-within (leb n (length rest)) (Good n (One Comment)) tt
@@ -158,7 +158,7 @@ module _ (P : Reason → Type 0) (opcode : P OPCODE) (bits : P BITS) (run-out : 
   of-judged : (v : Version) (tokens : List ℕ) → OfJudged (judged v tokens)
   unfolding judged
   of-judged v [] = run-out
-  of-judged v (token ∷ rest) = on-head v (head v token) (classOf (opcodeOf token)) rest (of-head v token)
+  of-judged v (token ∷ rest) = on-head v (tokenHead v token) (classOf (opcodeOf token)) rest (of-head v token)
 
   -- what holds of the six reasons holds of a refused instruction's
   pub instruction-reason : (v : Version) (tokens : List ℕ) (r : Refusal) → judged v tokens ≡ Refused r → P (r .reason)

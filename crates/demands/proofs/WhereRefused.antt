@@ -26,7 +26,7 @@ use Rattle.paper.specs.declared.Verdict.the-variants.{Accepted, Refused}
 use Rattle.blocks.specs.Begins.{Leads, Begins, reasonAfter}
 use Rattle.blocks.proofs.Cutting.{cut-none, cut-at}
 use Rattle.blocks.proofs.Refused.{none-begins-refused}
-use Rattle.blocks.specs.Nesting.{nesting, count}
+use Rattle.blocks.specs.Nesting.{nesting, countOf}
 use Rattle.blocks.proofs.Counting.{walked-nesting}
 use Rattle.cutting.proofs.OwnTokens.{apart, good-within}
 use Rattle.checking.proofs.Whole.{laid-two, verdict-length, verdict-version, verdict-walked}
@@ -104,7 +104,7 @@ module _ (v : Version) (s : List ℕ) (r : Refusal) where
           by-judged n p ks inside later (judged v (drop p s)) refl (rw (cut-at v s p inside) at e)
 
   walked-refused : 1 ≤ length s → walked v s ≡ Refused r → Refusing v s 1 [] r
-  walked-refused h e = walk-refused (length s) (count (cutFrom v s 1)) 1 [] h (omega arith) (sym (walked-nesting v s) ∙ e)
+  walked-refused h e = walk-refused (length s) (countOf (cutFrom v s 1)) 1 [] h (omega arith) (sym (walked-nesting v s) ∙ e)
 
 -- a refused stream
 pub data StreamRefused (s : List ℕ) (r : Refusal) : Type 0 where
@@ -133,4 +133,4 @@ module _ (s : List ℕ) (r : Refusal) (e : verdict s ≡ Refused r) where
 -- and the other way, of a nesting: where the classes before begin a lawful stream and with the next one they begin none, the walk is refused
 pub nesting-refused : (v : Version) (s : List ℕ) {cs : List Class} {c : Class} {p : ℕ} {b : Cut} → Leads cs (cutFrom v s 1) (then c p b) →
     Begins cs → (Begins (cs ++ c ∷ []) → ⊥) → walked v s ≡ Refused (refusal (reasonAfter cs c) p)
-nesting-refused v s leads before through = walked-nesting v s ∙ none-begins-refused (count (cutFrom v s 1)) leads before through
+nesting-refused v s leads before through = walked-nesting v s ∙ none-begins-refused (countOf (cutFrom v s 1)) leads before through

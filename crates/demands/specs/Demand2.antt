@@ -24,7 +24,7 @@ use Rattle.writing.specs.declared.Written.the-variants.{Wrote}
 use Rattle.writing.specs.Buffer.{pasted}
 use Rattle.writing.specs.Writing.{toldWriting, Writes}
 use Rattle.writing.specs.InOrder.{WritesAll}
-use Rattle.demands.specs.Reading.{Given, ReadUp, placesOf, recordsIn, piecesIn, lastPlace, boundariesOf}
+use Rattle.demands.specs.Reading.{Given, ReadUp, placesRead, recordsIn, piecesIn, lastPlace, boundariesOf}
 
 -- "There is then one way to cut it."
 -- A check that jumps by the stated size without reading operands is ruled out: the operands alone give other chunks where a size is wrong.
@@ -48,7 +48,7 @@ pub record ReadAsCut (stream : List ℕ) (n : ℕ) (version : Version) (chunks :
   -- END's record is the last token's, so that no token is left unread
   pub isWhole : suc (lastPlace all) ≡ length stream
   -- the places at which the reader stood are the boundaries of the cutting
-  pub areBoundaries : placesOf all ≡ boundariesOf chunks 1
+  pub areBoundaries : placesRead all ≡ boundariesOf chunks 1
   -- what it gave there are the records of the chunks
   pub areRecords : recordsIn all ≡ recordsOf version chunks
   -- and n of them are neither a comment's nor END's

@@ -29,9 +29,9 @@ pub data ReadUp (version : ℕ) (stream : List ℕ) : ℕ → List Given → Typ
       ReadUp version stream next later → ReadUp version stream at (givenAt stream at r ∷ later)
 
 -- their places, their records, what is handed to the writer, and the place of the last
-abbrev pub placesOf : List Given → List ℕ
-placesOf [] = []
-placesOf (g ∷ gs) = g .place ∷ placesOf gs
+abbrev pub placesRead : List Given → List ℕ
+placesRead [] = []
+placesRead (g ∷ gs) = g .place ∷ placesRead gs
 
 abbrev pub recordsIn : List Given → List Record
 recordsIn [] = []
@@ -56,4 +56,4 @@ boundariesOf (chunk ∷ chunks) p = p ∷ boundariesOf chunks (p + length chunk)
 pub record Boundary (stream : List ℕ) (p : ℕ) : Type 0 where
   pub all : List Given
   pub isRead : ReadUp (getD stream 0 0) stream 1 all
-  pub isPlace : among p (placesOf all) ≡ true
+  pub isPlace : among p (placesRead all) ≡ true

@@ -22,7 +22,7 @@ use Rattle.paper.specs.declared.Verdict.the-variants.{Refused as no-verdict}
 use Rattle.edit.specs.declared.Edited.{Edited}
 use Rattle.edit.specs.declared.Edited.the-variants.{Joined, Accepted}
 use Rattle.edit.specs.Boundaries.{standsWith, standingAt, isBoundary}
-use Rattle.edit.specs.Edit.{splice, newLength, placed, fits, spliced, refusedAs, onNamed, edited, editedIn}
+use Rattle.edit.specs.Edit.{splice, newLength, placed, fits, spliced, editRefused, editNamed, edited, editedIn}
 use Rattle.edit.proofs.Standing.{apart, ahead, standing-comes}
 use Rattle.edit.proofs.Prefix.{splice-length}
 use Rattle.edit.proofs.SameBlocks.{both, boundary}
@@ -61,44 +61,44 @@ places v old i j e =
     }
 
 -- an answer that no refusal of these gives is what stands behind the test
-past : (answer : Edited) → ((reason : Reason) → refusedAs reason ≡ answer → ⊥) →
-    (b : Bool) (next : Edited) (reason : Reason) → pick b next (refusedAs reason) ≡ answer → (b ≡ true) × (next ≡ answer)
+past : (answer : Edited) → ((reason : Reason) → editRefused reason ≡ answer → ⊥) →
+    (b : Bool) (next : Edited) (reason : Reason) → pick b next (editRefused reason) ≡ answer → (b ≡ true) × (next ≡ answer)
 past answer other true next reason e = (refl, e)
 past answer other false next reason e = absurd (other reason e)
 
 -- a yes is none of them
-joined-other : (n : ℕ) (reason : Reason) → refusedAs reason ≡ Joined n → ⊥
+joined-other : (n : ℕ) (reason : Reason) → editRefused reason ≡ Joined n → ⊥
 joined-other n reason e = apart (cc)
 
-accepted-other : (n : ℕ) (reason : Reason) → refusedAs reason ≡ Accepted n → ⊥
+accepted-other : (n : ℕ) (reason : Reason) → editRefused reason ≡ Accepted n → ⊥
 accepted-other n reason e = apart (cc)
 
 module _ (room : ℕ) (old : List ℕ) (i j : ℕ) (run : List ℕ) where
   after-place : Version → Edited
-  after-place v = pick (fits room (newLength (length old) i j (length run))) (spliced v old i j run) (refusedAs ROOM)
+  after-place v = pick (fits room (newLength (length old) i j (length run))) (spliced v old i j run) (editRefused ROOM)
 
   after-version : Version → Edited
-  after-version v = pick (placed v old i j) (after-place v) (refusedAs PLACE)
+  after-version v = pick (placed v old i j) (after-place v) (editRefused PLACE)
 
   -- an edit that is allowed is answered by the splice
   pub allowed-answer : (v : Version) → Allowed room old i j run v → edited room old i j run ≡ spliced v old i j run
   unfolding edited after-version after-place
   allowed-answer v a =
-      ap (λ (b : Bool). pick b (onNamed (named (getD old 0 0)) after-version) (refusedAs LENGTH)) (a .laid)
-      ∙ ap (λ (n : Named). onNamed n after-version) (a .known)
-      ∙ ap (λ (b : Bool). pick b (after-place v) (refusedAs PLACE)) (a .place)
-      ∙ ap (λ (b : Bool). pick b (spliced v old i j run) (refusedAs ROOM)) (a .fit)
+      ap (λ (b : Bool). pick b (editNamed (named (getD old 0 0)) after-version) (editRefused LENGTH)) (a .laid)
+      ∙ ap (λ (n : Named). editNamed n after-version) (a .known)
+      ∙ ap (λ (b : Bool). pick b (after-place v) (editRefused PLACE)) (a .place)
+      ∙ ap (λ (b : Bool). pick b (spliced v old i j run) (editRefused ROOM)) (a .fit)
 
   -- an answer that none of the four refusals gives is the splice's, and the edit is allowed
-  module _ (answer : Edited) (other : (reason : Reason) → refusedAs reason ≡ answer → ⊥) where
-    past-version : (x : Named) → onNamed x after-version ≡ answer → (v : Version) × (x ≡ Known v) × (after-version v ≡ answer)
+  module _ (answer : Edited) (other : (reason : Reason) → editRefused reason ≡ answer → ⊥) where
+    past-version : (x : Named) → editNamed x after-version ≡ answer → (v : Version) × (x ≡ Known v) × (after-version v ≡ answer)
     past-version (Known v) e = (v, refl, e)
     past-version Unknown e = absurd (other VERSION e)
 
     pub answer-allowed : edited room old i j run ≡ answer → (v : Version) × Allowed room old i j run v × (spliced v old i j run ≡ answer)
     unfolding edited after-version after-place
     answer-allowed e =
-        let l = past answer other (lengthLaid (length old)) (onNamed (named (getD old 0 0)) after-version) LENGTH e in
+        let l = past answer other (lengthLaid (length old)) (editNamed (named (getD old 0 0)) after-version) LENGTH e in
         let w = past-version (named (getD old 0 0)) (l .1) in
         let p = past answer other (placed (w .0) old i j) (after-place (w .0)) PLACE (w .2) in
         let r = past answer other (fits room (newLength (length old) i j (length run))) (spliced (w .0) old i j run) ROOM (p .1) in

@@ -24,7 +24,7 @@ use Rattle.paper.specs.declared.Verdict.the-variants.{Accepted, Refused}
 use Rattle.blocks.specs.Reach.{moved, movedRefusal}
 use Rattle.blocks.proofs.Reach.{reached, joined}
 use Rattle.blocks.proofs.Cutting.{cut-moved}
-use Rattle.blocks.specs.Nesting.{nesting, count}
+use Rattle.blocks.specs.Nesting.{nesting, countOf}
 use Rattle.blocks.proofs.Counting.{walked-nesting}
 use Rattle.edit.specs.declared.Edited.the-variants.{Joined}
 use Rattle.edit.specs.Boundaries.{standsWith, standingAt}
@@ -41,7 +41,7 @@ drop-splice old i j run h =
 
 -- Where the states meet at the run's end, the walk of the splice is the walk of the old stream, its positions moved from j to the run's end.
 pub joined-walked : (v : Version) (old : List ℕ) (i j : ℕ) (run : List ℕ) → i ≤ j → meetsAtEnd v old i j run ≡ true →
-    walked v (splice old i j run) ≡ moved (count (cutFrom v (splice old i j run) 1)) (λ p. i + length run + (p - j)) (walked v old)
+    walked v (splice old i j run) ≡ moved (countOf (cutFrom v (splice old i j run) 1)) (λ p. i + length run + (p - j)) (walked v old)
 unfolding meetsAtEnd
 joined-walked v old i j run order e =
     let m = met (standingAt v old j) (standingAt v (splice old i j run) (i + length run)) e in
@@ -50,8 +50,8 @@ joined-walked v old i j run order e =
     let same = cut-moved v old (splice old i j run) j (i + length run) (sym (drop-splice old i j run (omega arith))) in
     let f : ℕ → ℕ = λ p. i + length run + (p - j) in
     walked-nesting v (splice old i j run)
-    ∙ joined (count (cutFrom v old 1)) (count (cutFrom v (splice old i j run) 1)) f (a .2) (rw same at (b .2))
-    ∙ ap (moved (count (cutFrom v (splice old i j run) 1)) f) (sym (walked-nesting v old))
+    ∙ joined (countOf (cutFrom v old 1)) (countOf (cutFrom v (splice old i j run) 1)) f (a .2) (rw same at (b .2))
+    ∙ ap (moved (countOf (cutFrom v (splice old i j run) 1)) f) (sym (walked-nesting v old))
 
 -- a walk from p on is refused at p or later
 position-of : (reason : Reason) (p : ℕ) (r : Refusal) → Refused (refusal reason p) ≡ Refused r → p ≡ r .position
@@ -92,7 +92,7 @@ pub refused-behind : (v : Version) (s : List ℕ) (j : ℕ) (ks : List Kind) (r 
 unfolding cutFrom
 refused-behind v s j ks r b e =
     let c = standing-reached v s j ks b in
-    late (length (drop j s)) (count (cutFrom v s 1)) v (drop j s) j ks r (sym (reached (c .2) (count (cutFrom v s 1))) ∙ sym (walked-nesting v s) ∙ e)
+    late (length (drop j s)) (countOf (cutFrom v s 1)) v (drop j s) j ks r (sym (reached (c .2) (countOf (cutFrom v s 1))) ∙ sym (walked-nesting v s) ∙ e)
 
 -- "the position moved by m - (j - i)", without a number below zero
 pub carried-by : (i j m p : ℕ) → i ≤ j → j ≤ p → carried i j m p + (j - i) ≡ p + m
@@ -111,10 +111,10 @@ joined-meets v old i j run n e =
 
 -- JOINED, the states meeting: the verdict of the splice is that of the old stream, its position carried
 module _ (v : Version) (old : List ℕ) (i j : ℕ) (run : List ℕ) (order : i ≤ j) (meeting : meetsAtEnd v old i j run ≡ true) where
-  pub meets-accepted : (c : ℕ) → walked v old ≡ Accepted c → walked v (splice old i j run) ≡ Accepted (count (cutFrom v (splice old i j run) 1))
+  pub meets-accepted : (c : ℕ) → walked v old ≡ Accepted c → walked v (splice old i j run) ≡ Accepted (countOf (cutFrom v (splice old i j run) 1))
   meets-accepted c e =
       joined-walked v old i j run order meeting
-      ∙ ap (moved (count (cutFrom v (splice old i j run) 1)) (λ p. i + length run + (p - j))) e
+      ∙ ap (moved (countOf (cutFrom v (splice old i j run) 1)) (λ p. i + length run + (p - j))) e
 
   pub meets-refused : (r : Refusal) → walked v old ≡ Refused r → walked v (splice old i j run) ≡ Refused (movedRefusal (carried i j (length run)) r)
   unfolding meetsAtEnd
@@ -122,7 +122,7 @@ module _ (v : Version) (old : List ℕ) (i j : ℕ) (run : List ℕ) (order : i 
       let m = met (standingAt v old j) (standingAt v (splice old i j run) (i + length run)) meeting in
       let behind = refused-behind v old j (m .0) r (m .1) e in
       joined-walked v old i j run order meeting
-      ∙ ap (moved (count (cutFrom v (splice old i j run) 1)) (λ p. i + length run + (p - j))) e
+      ∙ ap (moved (countOf (cutFrom v (splice old i j run) 1)) (λ p. i + length run + (p - j))) e
       ∙ rw (le-leb j (r .position) behind) refl
 
 -- An edit that is JOINED:
@@ -134,7 +134,7 @@ module _ (room : ℕ) (old : List ℕ) (i j : ℕ) (run : List ℕ) (n : ℕ) (a
       let p = places (a .0) old i j (a .1 .place) in
       let m = joined-meets (a .0) old i j run n (a .2) in
       let before = sym (verdict-walked old (a .0) (a .1 .laid) (a .1 .known)) ∙ e in
-      (count (cutFrom (a .0) (splice old i j run) 1), splice-verdict (a .1) ∙ meets-accepted (a .0) old i j run (p .order) (m .0) c before)
+      (countOf (cutFrom (a .0) (splice old i j run) 1), splice-verdict (a .1) ∙ meets-accepted (a .0) old i j run (p .order) (m .0) c before)
 
   -- else it is refused with the same number, at the position to which the edit carries the old one.
   pub joined-refused : (r : Refusal) → verdict old ≡ Refused r → verdict (splice old i j run) ≡ Refused (refusal (r .reason) (carried i j (length run) (r .position)))

@@ -48,24 +48,24 @@ spliced v old i j run =
     pick (meetsAtEnd v old i j run) (Joined (newLength (length old) i j (length run)))
     (onVerdict (walked v (splice old i j run)) (newLength (length old) i j (length run)))
 
-abbrev pub refusedAs : Rattle.paper.specs.declared.Reason.Reason → Edited
-refusedAs reason = Refused (refusal reason 0)
+abbrev pub editRefused : Rattle.paper.specs.declared.Reason.Reason → Edited
+editRefused reason = Refused (refusal reason 0)
 
-abbrev pub onNamed : Named → (Version → Edited) → Edited
-onNamed (Known v) next = next v
-onNamed Unknown next = refusedAs VERSION
+abbrev pub editNamed : Named → (Version → Edited) → Edited
+editNamed (Known v) next = next v
+editNamed Unknown next = editRefused VERSION
 
 -- "Order: LENGTH, VERSION, PLACE, ROOM": the edit of a stream in a room of so many tokens
 unfoldable pub edited : ℕ → List ℕ → ℕ → ℕ → List ℕ → Edited
 edited room old i j run =
     pick (lengthLaid (length old))
-    (onNamed (named (getD old 0 0))
-    (λ v. pick (placed v old i j) (pick (fits room (newLength (length old) i j (length run))) (spliced v old i j run) (refusedAs ROOM)) (refusedAs PLACE)))
-    (refusedAs LENGTH)
+    (editNamed (named (getD old 0 0))
+    (λ v. pick (placed v old i j) (pick (fits room (newLength (length old) i j (length run))) (spliced v old i j run) (editRefused ROOM)) (editRefused PLACE)))
+    (editRefused LENGTH)
 
 -- the edit of the first n tokens of a buffer; "or more than the buffer holds" is LENGTH
 unfoldable pub editedIn : List ℕ → ℕ → ℕ → ℕ → List ℕ → Edited
-editedIn buffer n i j run = pick (leb n (length buffer)) (edited (length buffer) (take n buffer) i j run) (refusedAs LENGTH)
+editedIn buffer n i j run = pick (leb n (length buffer)) (edited (length buffer) (take n buffer) i j run) (editRefused LENGTH)
 
 -- "Both yeses give the new length; the buffer then holds the splice, and what lies past it is as before"; a refusal leaves it as it was
 abbrev pub heldAfter : Edited → List ℕ → ℕ → ℕ → ℕ → List ℕ → List ℕ

@@ -17,7 +17,7 @@ use Rattle.paper.specs.declared.Reason.the-variants.{Length as LENGTH, Place as
 use Rattle.edit.specs.declared.Edited.{Edited}
 use Rattle.edit.specs.declared.Edited.the-variants.{Joined, Accepted, Refused}
 use Rattle.edit.specs.Boundaries.{Standing, nowhere, standsWith, standingAt}
-use Rattle.edit.specs.Edit.{splice, newLength, spliced, refusedAs, onNamed, edited, editedIn, heldAfter, bufferAfter}
+use Rattle.edit.specs.Edit.{splice, newLength, spliced, editRefused, editNamed, edited, editedIn, heldAfter, bufferAfter}
 use Rattle.edit.proofs.Edited.{the-type}
 use Rattle.edit.proofs.Standing.{reached-standing, standing-reached}
 use Rattle.edit.proofs.Allowed.{Allowed, places, new-length, joined-allowed, accepted-allowed, joined-held, accepted-held}
@@ -49,24 +49,24 @@ module _ (v : Version) (old : List ℕ) where
       this (standsWith ks) e = absurd (omega (arith, standing-reached v old q ks e .1))
 
   module _ (room i j : ℕ) (run : List ℕ) where
-    pub no-first : standingAt v old i ≡ nowhere → afterVersion v room old i j run ≡ refusedAs PLACE
+    pub no-first : standingAt v old i ≡ nowhere → afterVersion v room old i j run ≡ editRefused PLACE
     unfolding afterVersion
     no-first e = rw e
 
-    pub no-second : standingAt v old j ≡ nowhere → afterVersion v room old i j run ≡ refusedAs PLACE
+    pub no-second : standingAt v old j ≡ nowhere → afterVersion v room old i j run ≡ editRefused PLACE
     unfolding afterVersion
     no-second e = rw (e, never)
 
-    pub crossed : j < i → afterVersion v room old i j run ≡ refusedAs PLACE
+    pub crossed : j < i → afterVersion v room old i j run ≡ editRefused PLACE
     unfolding afterVersion
     crossed h = rw (lt-leb i j h, never, never)
 
     -- ROOM
-    pub too-long : mostTokens < newLength (length old) i j (length run) → afterPlace v room old i j run ≡ refusedAs ROOM
+    pub too-long : mostTokens < newLength (length old) i j (length run) → afterPlace v room old i j run ≡ editRefused ROOM
     unfolding afterPlace
     too-long h = rw (lt-leb (newLength (length old) i j (length run)) mostTokens h, never)
 
-    pub no-room : room < newLength (length old) i j (length run) → afterPlace v room old i j run ≡ refusedAs ROOM
+    pub no-room : room < newLength (length old) i j (length run) → afterPlace v room old i j run ≡ editRefused ROOM
     unfolding afterPlace
     no-room h = rw (lt-leb (newLength (length old) i j (length run)) room h)
 
@@ -89,22 +89,22 @@ module _ (v : Version) (old : List ℕ) where
 
 -- LENGTH and VERSION
 module _ (room : ℕ) (old : List ℕ) (i j : ℕ) (run : List ℕ) where
-  pub too-few : length old < 2 → edited room old i j run ≡ refusedAs LENGTH
+  pub too-few : length old < 2 → edited room old i j run ≡ editRefused LENGTH
   unfolding edited
   too-few h = rw (lt-leb 2 (length old) h)
 
   module _ (two : 2 ≤ length old) where
-    pub too-many : mostTokens < length old → edited room old i j run ≡ refusedAs LENGTH
+    pub too-many : mostTokens < length old → edited room old i j run ≡ editRefused LENGTH
     unfolding edited
     too-many h = rw (le-leb 2 (length old) two, lt-leb (length old) mostTokens h)
 
-    pub by-version : length old ≤ mostTokens → edited room old i j run ≡ onNamed (named (getD old 0 0)) (λ v. afterVersion v room old i j run)
+    pub by-version : length old ≤ mostTokens → edited room old i j run ≡ editNamed (named (getD old 0 0)) (λ v. afterVersion v room old i j run)
     unfolding edited afterVersion afterPlace
     by-version h = rw (le-leb 2 (length old) two, le-leb (length old) mostTokens h)
 
 -- in a buffer
 module _ (buffer : List ℕ) (n i j : ℕ) (run : List ℕ) where
-  pub not-held : length buffer < n → editedIn buffer n i j run ≡ refusedAs LENGTH
+  pub not-held : length buffer < n → editedIn buffer n i j run ≡ editRefused LENGTH
   unfolding editedIn
   not-held h = rw (lt-leb n (length buffer) h)
 

@@ -21,12 +21,12 @@ use Rattle.edit.proofs.SameBlocks.{both, met as both-stand, meeting}
 use Rattle.walk.specs.declared.State.{State}
 use Rattle.walk.specs.declared.Stepped.{Stepped}
 use Rattle.walk.specs.declared.Stepped.the-variants.{On, Done, Refused as Stopped}
-use Rattle.walk.specs.Kinds.{numberOf}
+use Rattle.walk.specs.Kinds.{kindsNumber}
 use Rattle.walk.specs.Stands.{Stands, stepAt}
 use Rattle.walk.proofs.OpenBlocks.{number-same}
 use Rattle.walk.proofs.OnStream.{step-on, step-done, step-refused, stands-out, ends-accepted, ends-tail}
 use Rattle.editing.specs.Found.{Between}
-use Rattle.editing.specs.Answers.{endsAt}
+use Rattle.editing.specs.Answers.{editAtEnd}
 use Rattle.editing.proofs.Onward.{none-past, none-done, none-refused}
 
 -- two equations, tested together
@@ -60,7 +60,7 @@ module _ (v : Version) (old : List ℕ) (first last : State) (run : List ℕ) wh
   -- edit is answered
   abbrev pub Turns : State → Stepped → Type 0
   Turns state (On next) = Stands v stream next × (state .at < next .at) × (end < next .at → Meets false)
-  Turns state (Done done) = endsAt done whole ≡ answer
+  Turns state (Done done) = editAtEnd done whole ≡ answer
   Turns state (Stopped r) = Refused r ≡ answer
 
   module _ (b : Between v old first last) where
@@ -103,7 +103,7 @@ module _ (v : Version) (old : List ℕ) (first last : State) (run : List ℕ) wh
               let here = end-stands e in
               let blocks : standsWith (h .opened) ≡ standsWith (b .upto .opened) = sym here ∙ t .2 ∙ sym (t .1) ∙ there in
               let same : h .opened ≡ b .upto .opened = cc in
-              absurd (different (h .numbered ∙ ap numberOf same ∙ sym (b .upto .numbered)))
+              absurd (different (h .numbered ∙ ap kindsNumber same ∙ sym (b .upto .numbered)))
           this false m = refl
 
       -- JOINED
@@ -137,7 +137,7 @@ module _ (v : Version) (old : List ℕ) (first last : State) (run : List ℕ) wh
                   let here : state .at ≡ end = omega (arith, ltb-false (state .at) end e, ltb-false end (state .at) f) in
                   differs-here here (not-both (state .at) end (state .kinds) (last .kinds) other here)
 
-          done-by : (done : State) → stepAt v stream state ≡ Done done → (x : Bool) → ltb (done .at) whole ≡ x → endsAt done whole ≡ answer
+          done-by : (done : State) → stepAt v stream state ≡ Done done → (x : Bool) → ltb (done .at) whole ≡ x → editAtEnd done whole ≡ answer
           done-by done e true f =
               rw (
                 f,

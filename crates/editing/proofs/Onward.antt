@@ -14,7 +14,7 @@ use Rattle.edit.specs.Boundaries.{Standing, nowhere, standsWith, standingAt}
 use Rattle.edit.proofs.Standing.{Comes, stays, passes, apart, ahead, standing-comes, reached-standing}
 use Rattle.walk.specs.declared.State.{State}
 use Rattle.walk.specs.declared.Stepped.the-variants.{On, Done, Refused}
-use Rattle.walk.specs.Kinds.{numberOf, numbered, nextBy}
+use Rattle.walk.specs.Kinds.{kindsNumber, numbered, nextBy}
 use Rattle.walk.specs.Steps.{behindOf}
 use Rattle.walk.specs.Stands.{Stands, stepAt}
 use Rattle.walk.proofs.OpenBlocks.{next-is}
@@ -57,7 +57,7 @@ module _ (v : Version) (s : List ℕ) (state : State) (h : Stands v s state) (in
         let f = first-of (between here there (omega arith)) before in
         let said : nextBy (state .kinds) (f .class) ≡ numbered (go (f .next)) =
         ap (λ (k : ℕ). nextBy k (f .class)) (h .numbered) ∙ next-is (h .opened) (f .class) ∙ ap numbered (f .goes) in
-        (behindOf state (f .size) (f .class) (numberOf (f .next)), step-judged v s state ∙ rw (f .good, said), omega (arith, f .near))
+        (behindOf state (f .size) (f .class) (kindsNumber (f .next)), step-judged v s state ∙ rw (f .good, said), omega (arith, f .near))
 
     no-boundary : ((next : State) → stepAt v s state ≡ On next → next .at ≤ t → ⊥) → standingAt v s t ≡ nowhere
     no-boundary never = this (standingAt v s t) refl

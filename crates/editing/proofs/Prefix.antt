@@ -10,7 +10,7 @@ use Rattle.paper.specs.Stream.{cutFrom}
 use Rattle.paper.specs.declared.Version.{Version}
 use Rattle.paper.specs.declared.Class.{Class}
 use Rattle.blocks.proofs.Cutting.{cut-at}
-use Rattle.blocks.specs.Nesting.{count}
+use Rattle.blocks.specs.Nesting.{countOf}
 use Rattle.edit.specs.Edit.{splice}
 use Rattle.edit.proofs.Standing.{Comes, stays, passes, ahead, standing-comes, reached-standing, standing-reached}
 use Rattle.edit.proofs.Prefix.{same-part, same-length, same-good, splice-length, splice-begins, prefix-stands}
@@ -23,17 +23,17 @@ counts-on class k n = omega (arith, counts-add class 0 (k + n), counts-add class
 
 -- a walk passes as many instructions wherever the tokens up to its end are the same
 same-count : {v : Version} {s : List ℕ} (t : List ℕ) {p q : ℕ} {ks ls : List Kind} → take q s ≡ take q t → q ≤ length s → Comes v s p ks q ls →
-    (k : ℕ) × (count (cutFrom v s p) ≡ k + count (cutFrom v s q)) × (count (cutFrom v t p) ≡ k + count (cutFrom v t q))
-unfolding count
-same-count {v} {s} t e h (stays {p = p}) = (0, sym (zero-add (count (cutFrom v s p))), sym (zero-add (count (cutFrom v t p))))
+    (k : ℕ) × (countOf (cutFrom v s p) ≡ k + countOf (cutFrom v s q)) × (countOf (cutFrom v t p) ≡ k + countOf (cutFrom v t q))
+unfolding countOf
+same-count {v} {s} t e h (stays {p = p}) = (0, sym (zero-add (countOf (cutFrom v s p))), sym (zero-add (countOf (cutFrom v t p))))
 same-count {v} {s} t {q = q} e h (passes {size = size} {class = class} {p = p} j g inside c) =
     let a = ahead c in
     let later = same-count t e h c in
     let good = same-good v size class (drop p s) (drop p t) (same-part s t q p (suc size) e a) j in
     let there = same-length s t q p e h (omega arith) in (
       counts class (later .0),
-      rw (cut-at v s p inside, j) (ap (counts class) (later .1) ∙ counts-on class (later .0) (count (cutFrom v s q))),
-      rw (cut-at v t p there, good) (ap (counts class) (later .2) ∙ counts-on class (later .0) (count (cutFrom v t q))),
+      rw (cut-at v s p inside, j) (ap (counts class) (later .1) ∙ counts-on class (later .0) (countOf (cutFrom v s q))),
+      rw (cut-at v t p there, good) (ap (counts class) (later .2) ∙ counts-on class (later .0) (countOf (cutFrom v t q))),
     )
 
 pub stands-spliced : (v : Version) (old : List ℕ) (j : ℕ) (run : List ℕ) (state : State) → Stands v old state → state .at ≤ j → j < length old →

@@ -9,15 +9,15 @@ use Rattle.paper.specs.declared.Version.{Version}
 use Rattle.paper.specs.declared.Reason.the-variants.{Place as PLACE, Room as ROOM, Tail as TAIL}
 use Rattle.edit.specs.declared.Edited.{Edited}
 use Rattle.edit.specs.declared.Edited.the-variants.{Accepted, Refused}
-use Rattle.edit.specs.Edit.{newLength, placed, fits, spliced, refusedAs}
+use Rattle.edit.specs.Edit.{newLength, placed, fits, spliced, editRefused}
 use Rattle.walk.specs.declared.State.{State}
 
 -- behind the END that finishes a splice: "TAIL: tokens after END"
-abbrev pub endsAt : State → ℕ → Edited
-endsAt state length = pick (ltb (state .at) length) (Refused (refusal TAIL (state .at))) (Accepted length)
+abbrev pub editAtEnd : State → ℕ → Edited
+editAtEnd state length = pick (ltb (state .at) length) (Refused (refusal TAIL (state .at))) (Accepted length)
 
 unfoldable pub afterPlace : Version → ℕ → List ℕ → ℕ → ℕ → List ℕ → Edited
-afterPlace v room old i j run = pick (fits room (newLength (length old) i j (length run))) (spliced v old i j run) (refusedAs ROOM)
+afterPlace v room old i j run = pick (fits room (newLength (length old) i j (length run))) (spliced v old i j run) (editRefused ROOM)
 
 unfoldable pub afterVersion : Version → ℕ → List ℕ → ℕ → ℕ → List ℕ → Edited
-afterVersion v room old i j run = pick (placed v old i j) (afterPlace v room old i j run) (refusedAs PLACE)
+afterVersion v room old i j run = pick (placed v old i j) (afterPlace v room old i j run) (editRefused PLACE)

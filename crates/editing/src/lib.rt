@@ -9,7 +9,7 @@ ghost use Rattle.edit.specs.Edit.{splice, newLength, spliced, edited, editedIn,
 ghost use Rattle.walk.specs.Stands.{Stands, stepAt};
 ghost use Rattle.editing.specs.Steps.{behindRun};
 ghost use Rattle.editing.specs.Found.{FoundAt, Between, InSplice};
-ghost use Rattle.editing.specs.Answers.{endsAt, afterPlace, afterVersion};
+ghost use Rattle.editing.specs.Answers.{editAtEnd, afterPlace, afterVersion};
 use edit::Edited;
 use paper::Named;
 use paper::Reason;
@@ -132,7 +132,7 @@ fn step_spliced(
 
 // Behind the END that finishes a splice of `length` tokens.
 fn conclude(state: State, length: usize) -> Edited
-    ensures { λ r. ⌜ r ≡ endsAt state length ⌝ }
+    ensures { λ r. ⌜ r ≡ editAtEnd state length ⌝ }
 {
     if state.at < length {
         return refused(Reason::Tail, state.at);

@@ -7,7 +7,7 @@ use lib.Dec.{leb, leb·zero}
 use lib.ListN.{length, take, drop, getD}
 use Rattle.paper.specs.Notation.{pick}
 use Rattle.paper.specs.InstructionToken.{opcodeOf}
-use Rattle.paper.specs.Instruction.{Head as Said, broken, end, comment, dcl, operation, head, onHead, judged}
+use Rattle.paper.specs.Instruction.{Head as Said, broken, end, comment, dcl, operation, tokenHead, byHead, judged}
 use Rattle.paper.specs.Numbers.{refusal}
 use Rattle.paper.specs.Blocks.{classOf}
 use Rattle.paper.specs.declared.Version.{Version}
@@ -23,8 +23,8 @@ abbrev pub claimed : Version → Head → ℕ → List ℕ → Judged
 claimed v h first rest =
     pick (leb (claimOf h) (length rest)) (judgedBy v h first (take (claimOf h) rest)) (Unfit (refusal RUN-OUT 0))
 
-by-head : (v : Version) (first : ℕ) (rest : List ℕ) (h : Said) → head v first ≡ h →
-    onHead v h (classOf (opcodeOf first)) rest ≡ claimed v (encoded h) first rest
+by-head : (v : Version) (first : ℕ) (rest : List ℕ) (h : Said) → tokenHead v first ≡ h →
+    byHead v h (classOf (opcodeOf first)) rest ≡ claimed v (encoded h) first rest
 by-head v first rest (broken reason) e = rw (leb·zero (length rest))
 by-head v first rest end e = rw (leb·zero (length rest))
 by-head v first rest (comment n) e = refl
@@ -37,7 +37,7 @@ judged-none v [] h = refl
 judged-none v (first ∷ rest) h = absurd (omega arith)
 
 pub judged-some : (v : Version) (tokens : List ℕ) → (length tokens ≡ 0 → ⊥) →
-    judged v tokens ≡ claimed v (encoded (head v (getD tokens 0 0))) (getD tokens 0 0) (drop 1 tokens)
+    judged v tokens ≡ claimed v (encoded (tokenHead v (getD tokens 0 0))) (getD tokens 0 0) (drop 1 tokens)
 unfolding judged
 judged-some v [] h = absurd (h refl)
-judged-some v (first ∷ rest) h = by-head v first rest (head v first) refl
+judged-some v (first ∷ rest) h = by-head v first rest (tokenHead v first) refl

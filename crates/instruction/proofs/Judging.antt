@@ -16,7 +16,7 @@ use Rattle.paper.specs.InstructionToken.{opcodeOf, statedSize, commentOpcode, c
 use Rattle.paper.specs.OperandTokens.{typeOf, leftOver, refusedOperands}
 use Rattle.paper.specs.Dcl.{declaredAt, usageLaid, onDeclared, declaration}
 use Rattle.paper.specs.Blocks.{classOf}
-use Rattle.paper.specs.Instruction.{Head as Said, broken, end, comment, dcl, operation, headOf, head, judged}
+use Rattle.paper.specs.Instruction.{Head as Said, broken, end, comment, dcl, operation, headOf, tokenHead, judged}
 use Rattle.paper.specs.declared.Version.{Version}
 use Rattle.paper.specs.declared.Reason.{Reason}
 use Rattle.paper.specs.declared.Class.the-variants.{Closes}
@@ -115,7 +115,7 @@ module _ (v : Version) (first : ℕ) (some : shapeOf v (opcodeOf first) ≡ 0 �
   pub class-in : classIn (shapeOf v (opcodeOf first)) ≡ classNumber (classOf (opcodeOf first))
   class-in = class-by (entryOf v (opcodeOf first)) refl
 
-  head-listed : encoded (head v first) ≡ headBy (shapeOf v (opcodeOf first)) first
+  head-listed : encoded (tokenHead v first) ≡ headBy (shapeOf v (opcodeOf first)) first
   head-listed =
       head-other v first (λ e. within-table (omega arith)) (λ e. within-table (omega arith))
 
@@ -148,7 +148,7 @@ pub judged-whole : (v : Version) (tokens : List ℕ) (left : ℕ) → (length to
     judged v tokens ≡ judgedIn v (getD tokens 0 0) (drop 1 tokens) left
 unfolding judgedIn
 judged-whole v tokens left some e =
-    rw (judged-some v tokens some, e, room-all (encoded (head v (getD tokens 0 0))) (length (drop 1 tokens))) refl
+    rw (judged-some v tokens some, e, room-all (encoded (tokenHead v (getD tokens 0 0))) (length (drop 1 tokens))) refl
 
 -- nothing but a comment claims more than fifteen tokens behind its first
 abbrev Sized : Head → Type 0
@@ -172,8 +172,8 @@ sized-entry v token (listed places) =
     (sized-pick (eqb (opcodeOf token) DCL) (dcl (statedSize token)) (operation (withPredicate (isPredicated token) places) (statedSize token)) few few)
     tt
 
-sized : (v : Version) (token : ℕ) → Sized (encoded (head v token))
-unfolding head
+sized : (v : Version) (token : ℕ) → Sized (encoded (tokenHead v token))
+unfolding tokenHead
 sized v token =
     sized-pick (eqb (opcodeOf token) commentOpcode) (pick (commentLaid token) (comment (commentLength token)) (broken BITS)) _
     (sized-pick (commentLaid token) (comment (commentLength token)) (broken BITS) tt tt)
@@ -207,7 +207,7 @@ module _ (v : Version) (first : ℕ) (a b : List ℕ) (left : ℕ) (same : take 
 
   shown-alike : judgedIn v first a left ≡ judgedIn v first b left
   unfolding judgedIn
-  shown-alike = shown-by (encoded (head v first)) (sized v first)
+  shown-alike = shown-by (encoded (tokenHead v first)) (sized v first)
 
 pub judged-shown : (v : Version) (s behind : List ℕ) (at left : ℕ) → at < length s → left ≡ length s - (at + 1) →
     take 15 behind ≡ take 15 (drop (at + 1) s) → judgedIn v (getD s at 0) behind left ≡ judged v (drop at s)

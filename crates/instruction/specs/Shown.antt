@@ -6,7 +6,7 @@ use lib.ListN.{length, take}
 use Rattle.paper.specs.Notation.{pick}
 use Rattle.paper.specs.Numbers.{refusal}
 use Rattle.paper.specs.InstructionToken.{opcodeOf, commentOpcode, commentLength, commentLaid, endOpcode, endToken}
-use Rattle.paper.specs.Instruction.{head}
+use Rattle.paper.specs.Instruction.{tokenHead}
 use Rattle.paper.specs.declared.Version.{Version}
 use Rattle.paper.specs.declared.Reason.the-variants.{Opcode as OPCODE, Bits as BITS, RunOut as RUN-OUT}
 use Rattle.paper.specs.declared.Single.the-variants.{Comment as A-comment}
@@ -33,7 +33,7 @@ judgedWith v h first behind left =
     pick (leb (claimOf h) (roomFor h (length behind) left)) (judgedBy v h first (take (claimOf h) behind)) (Refused (refusal RUN-OUT 0))
 
 unfoldable pub judgedIn : Version → ℕ → List ℕ → ℕ → Judged
-judgedIn v first behind left = judgedWith v (encoded (head v first)) first behind left
+judgedIn v first behind left = judgedWith v (encoded (tokenHead v first)) first behind left
 
 -- the same where no row of the table lists the opcode: a comment, END, or OPCODE
 unfoldable pub unlistedIn : ℕ → ℕ → Judged

@@ -12,7 +12,7 @@ use Rattle.paper.specs.Notation.{pick, among, bits, bit}
 use Rattle.paper.specs.OpcodeTable.{DCL, DEF, DEFI, DEFB, IFC, BREAKC, SETP, TEX}
 use Rattle.paper.specs.Versions.{isThird}
 use Rattle.paper.specs.InstructionToken.{opcodeOf, controlsOf, statedSize, isPredicated, commentOpcode, commentLength, commentLaid, endOpcode, endToken, hasDestination, mayBePredicated, withPredicate, controlsLaid, bitsLaid}
-use Rattle.paper.specs.Instruction.{Head as Said, broken, end, comment, dcl, operation, headOf, head}
+use Rattle.paper.specs.Instruction.{Head as Said, broken, end, comment, dcl, operation, headOf, tokenHead}
 use Rattle.paper.specs.declared.Version.{Version}
 use Rattle.opcodes.specs.Places.{numberBy, decoded}
 use Rattle.opcodes.specs.Shape.{digits, shapeOf}
@@ -28,12 +28,12 @@ encoded-pick true x y = refl
 encoded-pick false x y = refl
 
 pub head-comment : (v : Version) (token : ℕ) → opcodeOf token ≡ commentOpcode →
-    encoded (head v token) ≡ pick (commentLaid token) (Comment (commentLength token)) (Refused BITS)
-unfolding head
+    encoded (tokenHead v token) ≡ pick (commentLaid token) (Comment (commentLength token)) (Refused BITS)
+unfolding tokenHead
 head-comment v token h = rw (h, encoded-pick (commentLaid token) (comment (commentLength token)) (broken BITS))
 
-pub head-end : (v : Version) (token : ℕ) → opcodeOf token ≡ endOpcode → encoded (head v token) ≡ pick (eqb token endToken) End (Refused BITS)
-unfolding head
+pub head-end : (v : Version) (token : ℕ) → opcodeOf token ≡ endOpcode → encoded (tokenHead v token) ≡ pick (eqb token endToken) End (Refused BITS)
+unfolding tokenHead
 head-end v token h = rw (h, encoded-pick (eqb token endToken) end (broken BITS))
 
 -- the predicate's digit, as a machine of 64 bits shifts it
@@ -131,8 +131,8 @@ head-shaped v token absent e = rw (shape-absent v (opcodeOf token) e)
 head-shaped v token (listed places) e = head-listed v token places e (bitsLaid v token places) refl
 
 pub head-other : (v : Version) (token : ℕ) → (opcodeOf token ≡ commentOpcode → ⊥) → (opcodeOf token ≡ endOpcode → ⊥) →
-    encoded (head v token) ≡ headBy (shapeOf v (opcodeOf token)) token
-unfolding head
+    encoded (tokenHead v token) ≡ headBy (shapeOf v (opcodeOf token)) token
+unfolding tokenHead
 head-other v token no-comment no-end = rw (ne-eqb _ _ no-comment, ne-eqb _ _ no-end) (sym (head-shaped v token (entryOf v (opcodeOf token)) refl))
 
 -- the places that a head gives are read back from their number
@@ -169,8 +169,8 @@ module _ (v : Version) (token : ℕ) (ps : List Place) (size : ℕ) where
   head-cases false commented true false h = let z : _≡_ {A = ℕ} 0 1 = cc in absurd (omega arith)
   head-cases false commented false ended h = entry-decoded (entryOf v (opcodeOf token)) refl h
 
-  pub head-decoded : head v token ≡ operation ps size → decoded (digits ps) ≡ ps
-  unfolding head
+  pub head-decoded : tokenHead v token ≡ operation ps size → decoded (digits ps) ≡ ps
+  unfolding tokenHead
   head-decoded h = head-cases (eqb (opcodeOf token) commentOpcode) (commentLaid token) (eqb (opcodeOf token) endOpcode) (eqb token endToken) h
 
 -- where bits 31:28 and the controls are zero, only an odd rule is broken

@@ -12,7 +12,7 @@ use borrow.Author.Tests.{le-leb, leb-true}
 use Rattle.paper.specs.Notation.{pick}
 use Rattle.paper.specs.Versions.{versionToken, named}
 use Rattle.paper.specs.InstructionToken.{opcodeOf}
-use Rattle.paper.specs.Instruction.{Head, broken, end, comment, dcl, operation, head, onHead, judged, operands}
+use Rattle.paper.specs.Instruction.{Head, broken, end, comment, dcl, operation, tokenHead, byHead, judged, operands}
 use Rattle.paper.specs.Dcl.{declaration}
 use Rattle.paper.specs.Blocks.{classOf}
 use Rattle.paper.specs.Stream.{mostTokens, verdict}
@@ -84,7 +84,7 @@ listed-counts n opcode class e = sym (class-counted opcode n) ∙ ap (λ (x : Cl
 
 -- a chunk's record counts as its class does
 module _ (v : Version) (first : ℕ) (rest : List ℕ) (n : ℕ) {size : ℕ} {class : Class} where
-  counts-on : (h : Head) → head v first ≡ h → onHead v h (classOf (opcodeOf first)) rest ≡ Lawful size class →
+  counts-on : (h : Head) → tokenHead v first ≡ h → byHead v h (classOf (opcodeOf first)) rest ≡ Lawful size class →
       pick (isPassed (recordOn h first rest)) n (suc n) ≡ counts class n
   counts-on (broken reason) e j = apart (cc)
   counts-on end e j = let c : Closes End ≡ class = cc in ap (λ (x : Class). counts x n) c
@@ -103,7 +103,7 @@ module _ (v : Version) (first : ℕ) (rest : List ℕ) (n : ℕ) {size : ℕ} {c
 
   chunk-counts : judged v (first ∷ rest) ≡ Lawful size class → pick (isPassed (recordOf v (first ∷ rest))) n (suc n) ≡ counts class n
   unfolding judged recordOf
-  chunk-counts j = counts-on (head v first) refl j
+  chunk-counts j = counts-on (tokenHead v first) refl j
 
 pub records-counted : {v : Version} {chunks : List (List ℕ)} {classes : List Class} → Chunks v chunks classes →
     counted (recordsOf v chunks) ≡ instructions classes

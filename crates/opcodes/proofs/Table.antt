@@ -17,7 +17,7 @@ use Rattle.paper.specs.declared.Version.the-variants.{V2, V3, P2, P3}
 use Rattle.opcodes.specs.Shape.{shapeOf}
 use Rattle.opcodes.specs.Rows.{rank, sincos, rowOf}
 use Rattle.paper.proofs.Below.{both-left, both-right}
-use Rattle.paper.specs.Places.{absent, lookup, entryOf, typedPlaces}
+use Rattle.paper.specs.Places.{absent, entryIn, entryOf, typedPlaces}
 use Rattle.opcodes.proofs.Computed.{computed}
 
 -- the lowest number above every opcode of the table
@@ -42,7 +42,7 @@ abbrev smallRows : List Row → Bool
 smallRows [] = true
 smallRows (r ∷ rs) = small (r .opcodes) && smallRows rs
 
-not-listed : (v : Version) (opcode : ℕ) (rs : List Row) → limit ≤ opcode → smallRows rs ≡ true → lookup rs v opcode ≡ absent
+not-listed : (v : Version) (opcode : ℕ) (rs : List Row) → limit ≤ opcode → smallRows rs ≡ true → entryIn rs v opcode ≡ absent
 not-listed v opcode [] h t = refl
 not-listed v opcode (r ∷ rs) h t =
     rw (not-among opcode (r .opcodes) h (both-left (small (r .opcodes)) (smallRows rs) t), and-false (isOne v (r .allowed)))

@@ -4,7 +4,7 @@ use mathlib.Core.List.{List, [], _∷_}
 use Prim.Native.Nat.{ℕ, suc, _<_}
 use native.Mathlib.Omega.{arith}
 use lib.ListN.{getD}
-use Rattle.paper.specs.Numbers.{numberOf, refusal, Told, told, toldToken, ToldInstruction, toldInstruction}
+use Rattle.paper.specs.Numbers.{numberOf, refusal, ToldVerdict, told, toldToken, ToldInstruction, toldInstruction}
 use Rattle.paper.specs.declared.Reason.{Reason}
 use Rattle.paper.specs.declared.Reason.the-variants.{Length as LENGTH, Version as VERSION, Opcode as OPCODE, Bits as BITS, RunOut as RUN-OUT, Size as SIZE, Operand as OPERAND, Register as REGISTER, Block as BLOCK, Depth as DEPTH, Tail as TAIL, Place as PLACE, Room as ROOM, Record as RECORD}
 use Rattle.paper.specs.declared.Refusal.{Refusal}
@@ -82,8 +82,8 @@ same-instruction (RefusedInstruction a) (RefusedInstruction b) e =
     ap RefusedInstruction (same-refusal a b (ap (λ (t : ToldInstruction). t .number) e) (ap (λ (t : ToldInstruction). t .position) e))
 
 pub same-verdict : (a b : Verdict) → told a ≡ told b → a ≡ b
-same-verdict (Accepted n) (Accepted m) e = ap Accepted (ap (λ (t : Told). t .count) e)
-same-verdict (Accepted n) (Refused b) e = absurd (no-reason-zero (b .reason) (ap (λ (t : Told). t .number) e))
-same-verdict (Refused a) (Accepted m) e = absurd (no-reason-zero (a .reason) (sym (ap (λ (t : Told). t .number) e)))
+same-verdict (Accepted n) (Accepted m) e = ap Accepted (ap (λ (t : ToldVerdict). t .count) e)
+same-verdict (Accepted n) (Refused b) e = absurd (no-reason-zero (b .reason) (ap (λ (t : ToldVerdict). t .number) e))
+same-verdict (Refused a) (Accepted m) e = absurd (no-reason-zero (a .reason) (sym (ap (λ (t : ToldVerdict). t .number) e)))
 same-verdict (Refused a) (Refused b) e =
-    ap Refused (same-refusal a b (ap (λ (t : Told). t .number) e) (ap (λ (t : Told). t .position) e))
+    ap Refused (same-refusal a b (ap (λ (t : ToldVerdict). t .number) e) (ap (λ (t : ToldVerdict). t .position) e))

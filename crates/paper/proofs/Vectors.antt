@@ -9,7 +9,7 @@ use Rattle.paper.specs.OpcodeTable.{rows}
 use Rattle.paper.specs.Places.{entryOf, typedPlaces}
 use Rattle.paper.specs.OperandTokens.{tokenAt}
 use Rattle.paper.specs.Dcl.{declaration}
-use Rattle.paper.specs.Instruction.{head, operand, operands, judged}
+use Rattle.paper.specs.Instruction.{tokenHead, operand, operands, judged}
 use Rattle.paper.specs.Blocks.{classes, classOf}
 use Rattle.paper.specs.declared.Version.{Version}
 use Rattle.paper.specs.declared.Version.the-variants.{V2, V3, P2, P3}
@@ -89,5 +89,5 @@ allTell [] = true
 allTell (row ∷ more) = tells (toldInstruction (judged (row .version) (row .tokens))) row && allTell more
 
 vectors-hold : allTell vectors ≡ true
-unfolding vectors judged head operand operands declaration tokenAt typedPlaces entryOf rows classOf classes
+unfolding vectors judged tokenHead operand operands declaration tokenAt typedPlaces entryOf rows classOf classes
 vectors-hold = refl

@@ -83,7 +83,7 @@ mostOpen = 24
 -- `Body depth inLoop a b`: where this many blocks are open, a LOOP or REP among them or not, a body takes the stream from a to b.
 mutual
   pub data Body : ℕ → Bool → Cut → Cut → Type 0 where
-    none : {depth : ℕ} {inLoop : Bool} {a : Cut} → Body depth inLoop a a
+    noItem : {depth : ℕ} {inLoop : Bool} {a : Cut} → Body depth inLoop a a
     more : {depth : ℕ} {inLoop : Bool} {a b c : Cut} → Item depth inLoop a b → Body depth inLoop b c → Body depth inLoop a c
 
   pub data Item : ℕ → Bool → Cut → Cut → Type 0 where

@@ -46,8 +46,8 @@ headOf v token (listed places) =
     (pick (eqb (opcodeOf token) DCL) (dcl (statedSize token)) (operation (withPredicate (isPredicated token) places) (statedSize token)))
     (broken BITS)
 
-unfoldable pub head : Version → ℕ → Head
-head v token =
+unfoldable pub tokenHead : Version → ℕ → Head
+tokenHead v token =
     pick (eqb (opcodeOf token) commentOpcode) (pick (commentLaid token) (comment (commentLength token)) (broken BITS))
     (pick (eqb (opcodeOf token) endOpcode) (pick (eqb token endToken) end (broken BITS))
     (headOf v token (entryOf v (opcodeOf token))))
@@ -85,14 +85,14 @@ onOperands (unfit r) size class = Refused r
 abbrev pub within : ℕ → List ℕ → Judged → Judged
 within size rest next = pick (leb size (length rest)) next (Refused (refusal RUN-OUT 0))
 
-abbrev pub onHead : Version → Head → Class → List ℕ → Judged
-onHead v (broken reason) class rest = Refused (refusal reason 0)
-onHead v end class rest = Good 0 (Closes End)
-onHead v (comment size) class rest = within size rest (Good size (One Comment))
-onHead v (dcl size) class rest = within size rest (onOperands (declaration v (take size rest)) size class)
-onHead v (operation places size) class rest = within size rest (onOperands (operands v places 1 (take size rest)) size class)
+abbrev pub byHead : Version → Head → Class → List ℕ → Judged
+byHead v (broken reason) class rest = Refused (refusal reason 0)
+byHead v end class rest = Good 0 (Closes End)
+byHead v (comment size) class rest = within size rest (Good size (One Comment))
+byHead v (dcl size) class rest = within size rest (onOperands (declaration v (take size rest)) size class)
+byHead v (operation places size) class rest = within size rest (onOperands (operands v places 1 (take size rest)) size class)
 
 -- "no token where an instruction must start" is RUN-OUT at the token count
 unfoldable pub judged : Version → List ℕ → Judged
 judged v [] = Refused (refusal RUN-OUT 0)
-judged v (token ∷ rest) = onHead v (head v token) (classOf (opcodeOf token)) rest
+judged v (token ∷ rest) = byHead v (tokenHead v token) (classOf (opcodeOf token)) rest

@@ -33,13 +33,13 @@ abbrev pub refusal : Reason → ℕ → Refusal
 refusal reason position = record { reason = reason; position = position }
 
 -- what a check tells: a number, a position, and of a yes the count of instructions
-pub record Told : Type 0 where
+pub record ToldVerdict : Type 0 where
   pub number : ℕ
   pub position : ℕ
   pub count : ℕ
 
 -- a yes has number 0 and position 0, a refusal has count 0
-abbrev pub told : Verdict → Told
+abbrev pub told : Verdict → ToldVerdict
 told (Accepted n) = record { number = 0; position = 0; count = n }
 told (Refused r) = record { number = numberOf (r .reason); position = r .position; count = 0 }
 

@@ -31,34 +31,34 @@ pub record Typed : Type 0 where
   pub operand : ℕ
   pub place : Place
 
-abbrev pub at : ℕ → ℕ → Place → Typed
-at opcode operand place = record { opcode = opcode; operand = operand; place = place }
+abbrev pub typedAt : ℕ → ℕ → Place → Typed
+typedAt opcode operand place = record { opcode = opcode; operand = operand; place = place }
 
 unfoldable pub typedPlaces : List Typed
 typedPlaces =
     -- "DEF D 2; DEFI D 7; DEFB D 14; SETP D 19; MOVA D 3; TEXKILL D 0 or 3."
-    at DEF 0 (destination (only (2 ∷ []))) ∷
-    at DEFI 0 (destination (only (7 ∷ []))) ∷
-    at DEFB 0 (destination (only (14 ∷ []))) ∷
-    at SETP 0 (destination (only (19 ∷ []))) ∷
-    at MOVA 0 (destination (only (3 ∷ []))) ∷
-    at TEXKILL 0 (destination (only (0 ∷ 3 ∷ []))) ∷
+    typedAt DEF 0 (destination (only (2 ∷ []))) ∷
+    typedAt DEFI 0 (destination (only (7 ∷ []))) ∷
+    typedAt DEFB 0 (destination (only (14 ∷ []))) ∷
+    typedAt SETP 0 (destination (only (19 ∷ []))) ∷
+    typedAt MOVA 0 (destination (only (3 ∷ []))) ∷
+    typedAt TEXKILL 0 (destination (only (0 ∷ 3 ∷ []))) ∷
     -- "CALL, LABEL and CALLNZ's first S 18; CALLNZ's second and IF 14, in V3 and P3 also 19"
-    at CALL 0 (source (only (18 ∷ []))) ∷
-    at LABEL 0 (source (only (18 ∷ []))) ∷
-    at CALLNZ 0 (source (only (18 ∷ []))) ∷
-    at CALLNZ 1 condition ∷
-    at IF 0 condition ∷
+    typedAt CALL 0 (source (only (18 ∷ []))) ∷
+    typedAt LABEL 0 (source (only (18 ∷ []))) ∷
+    typedAt CALLNZ 0 (source (only (18 ∷ []))) ∷
+    typedAt CALLNZ 1 condition ∷
+    typedAt IF 0 condition ∷
     -- "LOOP 15 then 7; REP 7; BREAKP 19; second S of TEX, TEXLDL, TEXLDD 10."
-    at LOOP 0 (source (only (15 ∷ []))) ∷
-    at LOOP 1 (source (only (7 ∷ []))) ∷
-    at REP 0 (source (only (7 ∷ []))) ∷
-    at BREAKP 0 (source (only (19 ∷ []))) ∷
-    at TEX 2 (source (only (10 ∷ []))) ∷
-    at TEXLDL 2 (source (only (10 ∷ []))) ∷
-    at TEXLDD 2 (source (only (10 ∷ []))) ∷
+    typedAt LOOP 0 (source (only (15 ∷ []))) ∷
+    typedAt LOOP 1 (source (only (7 ∷ []))) ∷
+    typedAt REP 0 (source (only (7 ∷ []))) ∷
+    typedAt BREAKP 0 (source (only (19 ∷ []))) ∷
+    typedAt TEX 2 (source (only (10 ∷ []))) ∷
+    typedAt TEXLDL 2 (source (only (10 ∷ []))) ∷
+    typedAt TEXLDD 2 (source (only (10 ∷ []))) ∷
     -- "Every other place but DCL's is free"
-    at DCL 1 declared ∷
+    typedAt DCL 1 declared ∷
     []
 
 abbrev pub otherPlace : Letter → Place
@@ -83,14 +83,14 @@ pub data Entry : Type 0 where
   absent : Entry
   listed : List Place → Entry
 
-abbrev pub lookup : List Row → Version → ℕ → Entry
-lookup [] v opcode = absent
-lookup (r ∷ rs) v opcode =
-    pick (isOne v (r .allowed) && among opcode (r .opcodes)) (listed (placesFrom opcode 0 (r .operands))) (lookup rs v opcode)
+abbrev pub entryIn : List Row → Version → ℕ → Entry
+entryIn [] v opcode = absent
+entryIn (r ∷ rs) v opcode =
+    pick (isOne v (r .allowed) && among opcode (r .opcodes)) (listed (placesFrom opcode 0 (r .operands))) (entryIn rs v opcode)
 
 unfoldable pub entryOf : Version → ℕ → Entry
 unfolding rows
-entryOf v opcode = lookup rows v opcode
+entryOf v opcode = entryIn rows v opcode
 
 -- kinds of places: a destination, the predicate's, one whose token is kept as it stands
 abbrev pub isDestination : Place → Bool

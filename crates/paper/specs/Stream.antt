@@ -6,7 +6,7 @@ use lib.Dec.{leb}
 use lib.ListN.{length, drop, getD}
 use Rattle.paper.specs.Notation.{pick}
 use Rattle.paper.specs.Versions.{named}
-use Rattle.paper.specs.Numbers.{refusal, Told, told}
+use Rattle.paper.specs.Numbers.{refusal, ToldVerdict, told}
 use Rattle.paper.specs.Instruction.{judged}
 use Rattle.paper.specs.Blocks.{Cut, out, wrong, then}
 use Rattle.paper.specs.Walk.{walk}
@@ -58,5 +58,5 @@ verdict stream =
     (no-verdict (refusal LENGTH 0))
 
 -- what a check tells of a stream
-abbrev pub checked : List ℕ → Told
+abbrev pub checked : List ℕ → ToldVerdict
 checked stream = told (verdict stream)

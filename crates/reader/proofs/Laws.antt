@@ -15,12 +15,12 @@ use Rattle.records.proofs.Laws.{record-own}
 use Rattle.reader.specs.declared.Answer.{Answer}
 use Rattle.reader.specs.declared.Answer.the-variants.{Got, Refused}
 use Rattle.reader.specs.declared.Reading.{Reading}
-use Rattle.reader.specs.Reading.{got, readingAt, reading, Told, toldAnswer, toldReading}
+use Rattle.reader.specs.Reading.{got, readingAt, reading, ToldReading, toldAnswer, toldReading}
 
 told-answer : (a b : Answer) (i j : Record) → toldAnswer a i ≡ toldAnswer b j → (a ≡ b) × (i ≡ j)
 told-answer (Got m) (Got n) i j e = (ap Got (ap (λ t. t .next) e), ap (λ t. t .instruction) e)
-told-answer (Got m) (Refused s) i j e = absurd (no-reason-zero (s .reason) (ap (λ (t : Told). t .number) e))
-told-answer (Refused r) (Got n) i j e = absurd (no-reason-zero (r .reason) (sym (ap (λ (t : Told). t .number) e)))
+told-answer (Got m) (Refused s) i j e = absurd (no-reason-zero (s .reason) (ap (λ (t : ToldReading). t .number) e))
+told-answer (Refused r) (Got n) i j e = absurd (no-reason-zero (r .reason) (sym (ap (λ (t : ToldReading). t .number) e)))
 told-answer (Refused r) (Refused s) i j e =
     (ap Refused (same-refusal r s (ap (λ t. t .number) e) (ap (λ t. t .position) e)), ap (λ t. t .instruction) e)
 

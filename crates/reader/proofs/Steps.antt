@@ -10,7 +10,7 @@ use lib.Seq.{drop-cons, take-all, length-take-le}
 use borrow.Author.Tests.{le-leb, lt-leb, lt-ltb}
 use Rattle.paper.specs.Notation.{pick}
 use Rattle.paper.specs.Numbers.{refusal}
-use Rattle.paper.specs.Instruction.{head, judged}
+use Rattle.paper.specs.Instruction.{tokenHead, judged}
 use Rattle.paper.specs.declared.Version.{Version}
 use Rattle.paper.specs.declared.Reason.the-variants.{RunOut as RUN-OUT}
 use Rattle.paper.specs.declared.Judged.{Judged}
@@ -22,7 +22,7 @@ use Rattle.instruction.proofs.Claimed.{judged-some}
 use Rattle.records.specs.Record.{recordOf}
 use Rattle.records.specs.Encoded.{placesOf, recordBy, Readable}
 use Rattle.records.proofs.Readable.{record-by-head, readable, claim-good}
-use Rattle.reader.specs.Reading.{refused, got, readingAt}
+use Rattle.reader.specs.Reading.{unread, got, readingAt}
 use Rattle.reader.proofs.Positions.{refused-within}
 
 module _ (v : Version) (s : List ℕ) (at : ℕ) (h : Head) (claim : ℕ) where
@@ -34,9 +34,9 @@ module _ (v : Version) (s : List ℕ) (at : ℕ) (h : Head) (claim : ℕ) where
   abbrev pub Reads : Judged → Type 0
   Reads (Lawful size class) =
       (readingAt v s at ≡ got (at + size + 1) (recordBy h (getD s at 0) behind)) × Readable (placesOf h) behind × (at + size + 1 ≤ length s)
-  Reads (Unlawful r) = (readingAt v s at ≡ refused (r .reason) (at + r .position)) × (at + r .position < length s)
+  Reads (Unlawful r) = (readingAt v s at ≡ unread (r .reason) (at + r .position)) × (at + r .position < length s)
 
-  module _ (some : at < length s) (head-is : h ≡ encoded (head v (getD s at 0))) (claim-is : claim ≡ claimOf h) where
+  module _ (some : at < length s) (head-is : h ≡ encoded (tokenHead v (getD s at 0))) (claim-is : claim ≡ claimOf h) where
     judged-here : judged v (drop at s) ≡
         pick (leb claim (length (drop (at + 1) s))) (judgedBy v h (getD s at 0) (take claim (drop (at + 1) s))) (Unlawful (refusal RUN-OUT 0))
     judged-here =
@@ -46,7 +46,7 @@ module _ (v : Version) (s : List ℕ) (at : ℕ) (h : Head) (claim : ℕ) where
     record-here : recordOf v (drop at s) ≡ recordBy h (getD s at 0) (take claim (drop (at + 1) s))
     record-here = rw (claim-is, head-is, add-one at, drop-cons s at 0 some) (record-by-head v (getD s at 0) (drop (suc at) s))
 
-    pub runs-out : length s - (at + 1) < claim → readingAt v s at ≡ refused RUN-OUT at
+    pub runs-out : length s - (at + 1) < claim → readingAt v s at ≡ unread RUN-OUT at
     unfolding readingAt
     runs-out h =
         let first : at + 0 ≡ at = omega arith in

@@ -23,42 +23,42 @@ use Rattle.reader.specs.declared.Answer.the-variants.{Got, Refused}
 use Rattle.reader.specs.declared.Reading.{Reading}
 
 -- a refusal gives no record: all of it is zero
-abbrev pub refused : Reason → ℕ → Reading
-refused reason position = record { answer = Refused (refusal reason position); instruction = noRecord }
+abbrev pub unread : Reason → ℕ → Reading
+unread reason position = record { answer = Refused (refusal reason position); instruction = noRecord }
 
 abbrev pub got : ℕ → Record → Reading
 got next instruction = record { answer = Got next; instruction = instruction }
 
 -- the instruction at a place, judged; positions count from the first token
-abbrev pub onJudged : Judged → ℕ → Record → Reading
-onJudged (good size class) at instruction = got (at + size + 1) instruction
-onJudged (bad r) at instruction = refused (r .reason) (at + r .position)
+abbrev pub readJudged : Judged → ℕ → Record → Reading
+readJudged (good size class) at instruction = got (at + size + 1) instruction
+readJudged (bad r) at instruction = unread (r .reason) (at + r .position)
 
 -- "no token where an instruction must start": RUN-OUT at the token count
 unfoldable pub readingAt : Version → List ℕ → ℕ → Reading
 readingAt v tokens at =
-    pick (ltb at (length tokens)) (onJudged (judged v (drop at tokens)) at (recordOf v (drop at tokens)))
-    (refused RUN-OUT (length tokens))
+    pick (ltb at (length tokens)) (readJudged (judged v (drop at tokens)) at (recordOf v (drop at tokens)))
+    (unread RUN-OUT (length tokens))
 
 abbrev pub onVersion : Named → List ℕ → ℕ → Reading
 onVersion (Known v) tokens at = readingAt v tokens at
-onVersion Unknown tokens at = refused VERSION 0
+onVersion Unknown tokens at = unread VERSION 0
 
 unfoldable pub reading : ℕ → List ℕ → ℕ → Reading
-reading version tokens at = pick (leb (length tokens) mostTokens) (onVersion (named version) tokens at) (refused LENGTH 0)
+reading version tokens at = pick (leb (length tokens) mostTokens) (onVersion (named version) tokens at) (unread LENGTH 0)
 
 -- what a reading tells: a number and a position, the next place, and the record
-pub record Told : Type 0 where
+pub record ToldReading : Type 0 where
   pub number : ℕ
   pub position : ℕ
   pub next : ℕ
   pub instruction : Record
 
 -- a yes has number 0 and position 0, a refusal has next place 0
-abbrev pub toldAnswer : Answer → Record → Told
+abbrev pub toldAnswer : Answer → Record → ToldReading
 toldAnswer (Got next) instruction = record { number = 0; position = 0; next = next; instruction = instruction }
 toldAnswer (Refused r) instruction =
     record { number = numberOf (r .reason); position = r .position; next = 0; instruction = instruction }
 
-abbrev pub toldReading : Reading → Told
+abbrev pub toldReading : Reading → ToldReading
 toldReading r = toldAnswer (r .answer) (r .instruction)

@@ -1,6 +1,6 @@
 // The reader: document 01, "Records". One instruction at a place of a stream, judged and read into its record.
 ghost use mathlib.Core.Path.{_≡_};
-ghost use Rattle.reader.specs.Reading.{refused, readingAt, reading};
+ghost use Rattle.reader.specs.Reading.{unread, readingAt, reading};
 use paper::Judged;
 use paper::Named;
 use paper::Reason;
@@ -24,7 +24,7 @@ pub struct Reading {
 }
 
 fn refused_at(reason: Reason, position: usize) -> Reading
-    ensures { λ r. ⌜ r ≡ refused reason position ⌝ }
+    ensures { λ r. ⌜ r ≡ unread reason position ⌝ }
 {
     let instruction = records::no_record();
     Reading {

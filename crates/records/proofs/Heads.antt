@@ -10,7 +10,7 @@ use borrow.Author.Tests.{eqb-true}
 use Rattle.paper.specs.Notation.{pick, bit, bits}
 use Rattle.paper.specs.OpcodeTable.{DCL, rows}
 use Rattle.paper.specs.InstructionToken.{opcodeOf, controlsOf, controlsLaid, hasDestination, statedSize, isPredicated, bitsLaid, commentOpcode, commentLength, commentLaid, endOpcode, endToken, withPredicate}
-use Rattle.paper.specs.Instruction.{Head, broken, end, comment, dcl, operation, headOf, head}
+use Rattle.paper.specs.Instruction.{Head, broken, end, comment, dcl, operation, headOf, tokenHead}
 use Rattle.paper.specs.Versions.{isThird}
 use Rattle.paper.specs.declared.Version.{Version}
 use Rattle.paper.specs.declared.Version.the-variants.{V2, V3, P2, P3}
@@ -122,23 +122,23 @@ module _ (v : Version) (token : ℕ) where
   says-cases false commented true false c l n e = tt
   says-cases false commented false ended c l n e = says-entry c n (entryOf v (opcodeOf token)) refl
 
-  says : Says v token (head v token)
-  unfolding head
+  says : Says v token (tokenHead v token)
+  unfolding tokenHead
   says = says-cases (eqb (opcodeOf token) commentOpcode) (commentLaid token) (eqb (opcodeOf token) endOpcode) (eqb token endToken) refl refl refl refl
 
-  pub is-end : head v token ≡ end → token ≡ endToken
+  pub is-end : tokenHead v token ≡ end → token ≡ endToken
   unfolding Says
   is-end h = rw h at says
 
-  pub is-comment : (n : ℕ) → head v token ≡ comment n → IsComment token n
+  pub is-comment : (n : ℕ) → tokenHead v token ≡ comment n → IsComment token n
   unfolding Says
   is-comment n h = rw h at says
 
-  pub is-dcl : (size : ℕ) → head v token ≡ dcl size → IsDcl v token size
+  pub is-dcl : (size : ℕ) → tokenHead v token ≡ dcl size → IsDcl v token size
   unfolding Says
   is-dcl size h = rw h at says
 
-  pub is-operation : (row : List Place) (size : ℕ) → head v token ≡ operation row size → IsOperation v token row size
+  pub is-operation : (row : List Place) (size : ℕ) → tokenHead v token ≡ operation row size → IsOperation v token row size
   unfolding Says
   is-operation row size h = rw h at says
 
@@ -153,7 +153,7 @@ ordered-predicated true [] = omega arith
 ordered-predicated false [] = omega arith
 ordered-predicated predicated (place ∷ row) = at-most (isPredicate place) _ _ (ordered-predicated predicated row)
 
-pub operation-few : (v : Version) (token : ℕ) (row : List Place) (size : ℕ) → head v token ≡ operation row size → ordered row ≤ 5
+pub operation-few : (v : Version) (token : ℕ) (row : List Place) (size : ℕ) → tokenHead v token ≡ operation row size → ordered row ≤ 5
 operation-few v token row size h =
     let o = is-operation v token row size h in
     let l = o .found in

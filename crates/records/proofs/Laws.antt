@@ -12,7 +12,7 @@ use Rattle.paper.specs.Notation.{pick}
 use Rattle.paper.specs.Numbers.{refusal}
 use Rattle.paper.specs.InstructionToken.{opcodeOf}
 use Rattle.paper.specs.Dcl.{declaration}
-use Rattle.paper.specs.Instruction.{Head as Said, broken, end, comment, dcl, operation, head, operands, onOperands, within, onHead, judged}
+use Rattle.paper.specs.Instruction.{Head as Said, broken, end, comment, dcl, operation, tokenHead, operands, onOperands, within, byHead, judged}
 use Rattle.paper.specs.Blocks.{classOf}
 use Rattle.paper.specs.declared.Version.{Version}
 use Rattle.paper.specs.declared.Reason.the-variants.{RunOut as RUN-OUT}
@@ -26,17 +26,17 @@ use Rattle.records.proofs.Heads.{is-comment}
 use Rattle.records.proofs.Good.{operands-good, comment-good}
 
 -- a comment's record and END's
-pub comment-record : (v : Version) (first n : ℕ) (rest : List ℕ) → head v first ≡ comment n → recordOf v (first ∷ rest) ≡ commentRecord n
+pub comment-record : (v : Version) (first n : ℕ) (rest : List ℕ) → tokenHead v first ≡ comment n → recordOf v (first ∷ rest) ≡ commentRecord n
 unfolding recordOf
 comment-record v first n rest h = rw (h, is-comment v first n h .stated)
 
-pub end-record : (v : Version) (first : ℕ) (rest : List ℕ) → head v first ≡ end → recordOf v (first ∷ rest) ≡ endRecord
+pub end-record : (v : Version) (first : ℕ) (rest : List ℕ) → tokenHead v first ≡ end → recordOf v (first ∷ rest) ≡ endRecord
 unfolding recordOf
 end-record v first rest h = rw h
 
 -- "one instruction has one record": it is that of the instruction's own tokens
 module _ (v : Version) (first : ℕ) (rest : List ℕ) {size : ℕ} {class : Class} where
-  own-by : (h : Said) (c : Class) → onHead v h c rest ≡ Lawful size class → recordOn h first (take size rest) ≡ recordOn h first rest
+  own-by : (h : Said) (c : Class) → byHead v h c rest ≡ Lawful size class → recordOn h first (take size rest) ≡ recordOn h first rest
   own-by (broken reason) c j = refl
   own-by end c j = refl
   own-by (comment n) c j = refl
@@ -50,7 +50,7 @@ module _ (v : Version) (first : ℕ) (rest : List ℕ) {size : ℕ} {class : Cla
 pub record-own : (v : Version) (tokens : List ℕ) {size : ℕ} {class : Class} → judged v tokens ≡ Lawful size class → recordOf v (take (suc size) tokens) ≡ recordOf v tokens
 unfolding judged recordOf
 record-own v [] j = refl
-record-own v (first ∷ rest) j = own-by v first rest (head v first) (classOf (opcodeOf first)) j
+record-own v (first ∷ rest) j = own-by v first rest (tokenHead v first) (classOf (opcodeOf first)) j
 
 -- an instruction's own tokens are judged as they are among others
 module _ (v : Version) (rest : List ℕ) {size : ℕ} {class : Class} where
@@ -65,7 +65,7 @@ module _ (v : Version) (rest : List ℕ) {size : ℕ} {class : Class} where
       let there : n ≤ length (take size rest) = rw (length-take-le size rest (omega arith)) (omega arith) in
       rw (le-leb n (length (take size rest)) there, take-take n size rest (omega arith)) (good .1)
 
-  judged-by : (h : Said) (c : Class) → onHead v h c rest ≡ Lawful size class → onHead v h c (take size rest) ≡ Lawful size class
+  judged-by : (h : Said) (c : Class) → byHead v h c rest ≡ Lawful size class → byHead v h c (take size rest) ≡ Lawful size class
   judged-by (broken reason) c j = j
   judged-by end c j = j
   judged-by (comment n) c j = within-own n (λ _. Lawful n (One Comment)) (comment-good (leb n (length rest)) n _ j) j
@@ -77,4 +77,4 @@ module _ (v : Version) (rest : List ℕ) {size : ℕ} {class : Class} where
 pub judged-own : (v : Version) (tokens : List ℕ) {size : ℕ} {class : Class} → judged v tokens ≡ Lawful size class → judged v (take (suc size) tokens) ≡ Lawful size class
 unfolding judged
 judged-own v [] j = j
-judged-own v (first ∷ rest) j = judged-by v rest (head v first) (classOf (opcodeOf first)) j
+judged-own v (first ∷ rest) j = judged-by v rest (tokenHead v first) (classOf (opcodeOf first)) j

@@ -6,7 +6,7 @@ use Prim.Native.Nat.{ℕ}
 use native.Mathlib.Omega.{arith}
 use lib.ListN.{take}
 use Rattle.paper.specs.Dcl.{declaration}
-use Rattle.paper.specs.Instruction.{Head as Said, broken, end, comment, dcl, operation, head, operands, judged}
+use Rattle.paper.specs.Instruction.{Head as Said, broken, end, comment, dcl, operation, tokenHead, operands, judged}
 use Rattle.paper.specs.declared.Version.{Version}
 use Rattle.paper.specs.declared.Class.{Class}
 use Rattle.paper.specs.declared.Judged.the-variants.{Good as Lawful}
@@ -23,7 +23,7 @@ use Rattle.records.proofs.Good.{operands-good}
 use Rattle.records.proofs.Passed.{all-passed, passed-width}
 
 -- by its head, as the code hands it on
-by-head : (v : Version) (first : ℕ) (rest : List ℕ) (h : Said) → head v first ≡ h →
+by-head : (v : Version) (first : ℕ) (rest : List ℕ) (h : Said) → tokenHead v first ≡ h →
     recordOn h first rest ≡ recordBy (encoded h) first (take (claimOf (encoded h)) rest)
 by-head v first rest (broken reason) e = refl
 by-head v first rest end e = refl
@@ -32,12 +32,12 @@ by-head v first rest (dcl size) e = refl
 by-head v first rest (operation row size) e = rw (head-decoded v first row size e)
 
 pub record-by-head : (v : Version) (first : ℕ) (rest : List ℕ) →
-    recordOf v (first ∷ rest) ≡ recordBy (encoded (head v first)) first (take (claimOf (encoded (head v first))) rest)
+    recordOf v (first ∷ rest) ≡ recordBy (encoded (tokenHead v first)) first (take (claimOf (encoded (tokenHead v first))) rest)
 unfolding recordOf
-record-by-head v first rest = by-head v first rest (head v first) refl
+record-by-head v first rest = by-head v first rest (tokenHead v first) refl
 
 module _ (v : Version) (first : ℕ) (behind : List ℕ) where
-  readable-by : (h : Said) {size : ℕ} {class : Class} → head v first ≡ h → judgedBy v (encoded h) first behind ≡ Lawful size class →
+  readable-by : (h : Said) {size : ℕ} {class : Class} → tokenHead v first ≡ h → judgedBy v (encoded h) first behind ≡ Lawful size class →
       Readable (placesOf (encoded h)) behind × (claimOf (encoded h) ≡ size)
   unfolding ordered widthOf
   readable-by (broken reason) e j = let z : _≡_ {A = ℕ} 0 1 = cc in absurd (omega arith)
@@ -52,8 +52,8 @@ module _ (v : Version) (first : ℕ) (behind : List ℕ) where
       let w = passed-width (all-passed v (decoded (digits row)) 1 behind (g .1)) in
       (record { there = omega arith; few = rw (head-decoded v first row n e) (operation-few v first row n e) }, g .2)
 
-  pub readable : {size : ℕ} {class : Class} → judgedBy v (encoded (head v first)) first behind ≡ Lawful size class → Readable (placesOf (encoded (head v first))) behind
-  readable j = readable-by (head v first) refl j .0
+  pub readable : {size : ℕ} {class : Class} → judgedBy v (encoded (tokenHead v first)) first behind ≡ Lawful size class → Readable (placesOf (encoded (tokenHead v first))) behind
+  readable j = readable-by (tokenHead v first) refl j .0
 
-  pub claim-good : {size : ℕ} {class : Class} → judgedBy v (encoded (head v first)) first behind ≡ Lawful size class → claimOf (encoded (head v first)) ≡ size
-  claim-good j = readable-by (head v first) refl j .1
+  pub claim-good : {size : ℕ} {class : Class} → judgedBy v (encoded (tokenHead v first)) first behind ≡ Lawful size class → claimOf (encoded (tokenHead v first)) ≡ size
+  claim-good j = readable-by (tokenHead v first) refl j .1

@@ -6,7 +6,7 @@ use lib.ListN.{take, drop, getD}
 use Rattle.paper.specs.Notation.{bits, bit, pick}
 use Rattle.paper.specs.InstructionToken.{opcodeOf, controlsOf, commentOpcode, commentLength, endOpcode}
 use Rattle.paper.specs.OperandTokens.{numberField, typeOf, modifierOf, bringsRelative}
-use Rattle.paper.specs.Instruction.{Head, broken, end, comment, dcl, operation, head}
+use Rattle.paper.specs.Instruction.{Head, broken, end, comment, dcl, operation, tokenHead}
 use Rattle.paper.specs.declared.Version.{Version}
 use Rattle.paper.specs.Places.{Place, isRaw, isDestination, isPredicate, usage, declared}
 use Rattle.records.specs.declared.Operand.{Operand}
@@ -145,4 +145,4 @@ recordOn (operation places size) first rest = instructionRecord first (arrayOf p
 -- the record of the instruction at the front of these tokens
 unfoldable pub recordOf : Version → List ℕ → Record
 recordOf v [] = noRecord
-recordOf v (first ∷ rest) = recordOn (head v first) first rest
+recordOf v (first ∷ rest) = recordOn (tokenHead v first) first rest

@@ -5,11 +5,11 @@ use mathlib.Core.List.{List, [], _∷_}
 use Prim.Native.Nat.{ℕ}
 use lib.Dec.{eqb}
 use lib.ListN.{length}
-use Rattle.paper.specs.Numbers.{Told}
+use Rattle.paper.specs.Numbers.{ToldVerdict}
 use Rattle.paper.specs.OpcodeTable.{rows}
 use Rattle.paper.specs.OperandTokens.{tokenAt}
 use Rattle.paper.specs.Dcl.{declaration}
-use Rattle.paper.specs.Instruction.{head, operand, operands, judged}
+use Rattle.paper.specs.Instruction.{tokenHead, operand, operands, judged}
 use Rattle.paper.specs.Blocks.{classes, classOf}
 use Rattle.paper.specs.Walk.{walk}
 use Rattle.paper.specs.Stream.{cutting, cutFrom, walked, verdict, checked}
@@ -32,7 +32,7 @@ record Answer : Type 0 where
 abbrev answer : ℕ → ℕ → ℕ → ℕ → Answer
 answer number position value joined = record { number = number; position = position; value = value; joined = joined }
 
-abbrev ofCheck : Told → Answer
+abbrev ofCheck : ToldVerdict → Answer
 ofCheck told = answer (told .number) (told .position) (told .count) 0
 
 abbrev ofEdit : ToldEdit → Answer
@@ -88,5 +88,5 @@ pieces =
     []
 
 shop-pieces : allTold pieces ≡ true
-unfolding pieces editedIn edited meetsAtEnd standingAt standing verdict walked cutFrom cutting walk classOf classes judged head operand operands declaration tokenAt typedPlaces entryOf rows
+unfolding pieces editedIn edited meetsAtEnd standingAt standing verdict walked cutFrom cutting walk classOf classes judged tokenHead operand operands declaration tokenAt typedPlaces entryOf rows
 shop-pieces = refl

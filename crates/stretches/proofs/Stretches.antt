@@ -14,7 +14,7 @@ use Rattle.paper.specs.Numbers.{refusal}
 use Rattle.paper.specs.InstructionToken.{opcodeOf}
 use Rattle.paper.specs.Dcl.{declaration}
 use Rattle.paper.specs.Blocks.{classOf}
-use Rattle.paper.specs.Instruction.{head, operands, onOperands, judged}
+use Rattle.paper.specs.Instruction.{tokenHead, operands, onOperands, judged}
 use Rattle.paper.specs.declared.Version.{Version}
 use Rattle.paper.specs.declared.Refusal.{Refusal}
 use Rattle.paper.specs.declared.Reason.the-variants.{RunOut as RUN-OUT}
@@ -33,7 +33,7 @@ use Rattle.instruction_token.specs.declared.Head.the-variants.{Refused, End, Co
 use Rattle.instruction_token.specs.Encoded.{encoded}
 use Rattle.stretches.specs.declared.Stretch.{Stretch}
 use Rattle.instruction.specs.Shown.{judgedWith, judgedIn}
-use Rattle.stretches.specs.Stretch.{toldAt, isPlain, nextAt, Leads, here, past, Stretched}
+use Rattle.stretches.specs.Stretch.{toldAt, isPlain, nextAt, PlainTo, here, past, Stretched}
 use Rattle.told.proofs.Numbers.{judged-back}
 use Rattle.instruction.proofs.Claimed.{judged-none}
 use Rattle.instruction.proofs.Judging.{judged-shown}
@@ -65,7 +65,7 @@ module _ (v : Version) (first : ℕ) (behind : List ℕ) (left : ℕ) where
 
   plain-size : isPlain (judgedNumber (judgedIn v first behind left)) ≡ true → judgedNumber (judgedIn v first behind left) / 32 ≤ length behind
   unfolding judgedIn
-  plain-size p = plain-by (encoded (head v first)) p
+  plain-size p = plain-by (encoded (tokenHead v first)) p
 
 module _ (v : Version) (tokens : List ℕ) (beyond at : ℕ) where
   -- what is told where a token is, and where none is
@@ -104,7 +104,7 @@ module _
     (v : Version)
     (tokens : List ℕ)
     (beyond stop start at count told : ℕ)
-    (l : Leads v tokens beyond stop start at count)
+    (l : PlainTo v tokens beyond stop start at count)
     (h : at < length tokens)
     (e : told ≡ judgedNumber (judgedIn v (getD tokens at 0) (take (length tokens - (at + 1)) (drop (at + 1) tokens)) (length (take (length tokens - (at + 1)) (drop (at + 1) tokens)) + beyond)))
   where
@@ -117,7 +117,7 @@ module _
     pub turn-inside : told % 32 ≡ 2 → nextAt at told ≤ length tokens
     turn-inside p = rw is (plain-next v tokens beyond at (plain p))
 
-    pub turn-on : told % 32 ≡ 2 → nextAt at told < stop → Leads v tokens beyond stop start (nextAt at told) (count + 1)
+    pub turn-on : told % 32 ≡ 2 → nextAt at told < stop → PlainTo v tokens beyond stop start (nextAt at told) (count + 1)
     turn-on p before =
         let one : count + 1 ≡ suc count = omega arith in
         rw (is, one) (past l (plain p) (rw is at before))
@@ -129,7 +129,7 @@ module _
     turn-stop p stops = record { leads = l; is = is; ends = rw (eq-eqb (told % 32) 2 p, le-ltb (nextAt at told) stop stops) refl }
 
 -- where the next instruction may not begin before a stop, the stretch has no more than one
-pub leads-one : {v : Version} {tokens : List ℕ} {beyond start at n : ℕ} → Leads v tokens beyond 0 start at n → at ≡ start
+pub leads-one : {v : Version} {tokens : List ℕ} {beyond start at n : ℕ} → PlainTo v tokens beyond 0 start at n → at ≡ start
 leads-one here = refl
 leads-one (past l p s) = absurd (omega arith)
 
@@ -200,17 +200,17 @@ plain-judged j told e p = sym (ap judgedFrom e ∙ judged-back j) ∙ plain-from
 
 -- a stretch has one answer
 module _ (v : Version) (tokens : List ℕ) (beyond stop start : ℕ) where
-  leads-same : {at at′ n : ℕ} → Leads v tokens beyond stop start at n → Leads v tokens beyond stop start at′ n → at ≡ at′
+  leads-same : {at at′ n : ℕ} → PlainTo v tokens beyond stop start at n → PlainTo v tokens beyond stop start at′ n → at ≡ at′
   leads-same here here = refl
   leads-same (past l p s) (past l′ p′ s′) = ap (λ (x : ℕ). nextAt x (toldAt v tokens beyond x)) (leads-same l l′)
 
   -- it goes on behind each place on its way
   abbrev GoesOnAt : ℕ → Type 0
   GoesOnAt m =
-      (on : ℕ) × Leads v tokens beyond stop start on m × (isPlain (toldAt v tokens beyond on) ≡ true) ×
+      (on : ℕ) × PlainTo v tokens beyond stop start on m × (isPlain (toldAt v tokens beyond on) ≡ true) ×
       (nextAt on (toldAt v tokens beyond on) < stop)
 
-  leads-before : (m : ℕ) {at n : ℕ} → Leads v tokens beyond stop start at n → m < n → GoesOnAt m
+  leads-before : (m : ℕ) {at n : ℕ} → PlainTo v tokens beyond stop start at n → m < n → GoesOnAt m
   leads-before m here h = absurd (omega arith)
   leads-before m (past {at} {n} l p s) h = by (eqb m n) refl (λ less. leads-before m l less)
     where

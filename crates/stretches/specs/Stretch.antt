@@ -29,13 +29,13 @@ abbrev pub nextAt : ℕ → ℕ → ℕ
 nextAt at told = at + 1 + told / 32
 
 -- so many plain instructions lead from one place to another, and those behind the first begin before `stop`
-pub data Leads (v : Version) (tokens : List ℕ) (beyond stop start : ℕ) : ℕ → ℕ → Type 0 where
-  here : Leads v tokens beyond stop start start 0
-  past : {at n : ℕ} → Leads v tokens beyond stop start at n → isPlain (toldAt v tokens beyond at) ≡ true →
-      nextAt at (toldAt v tokens beyond at) < stop → Leads v tokens beyond stop start (nextAt at (toldAt v tokens beyond at)) (suc n)
+pub data PlainTo (v : Version) (tokens : List ℕ) (beyond stop start : ℕ) : ℕ → ℕ → Type 0 where
+  here : PlainTo v tokens beyond stop start start 0
+  past : {at n : ℕ} → PlainTo v tokens beyond stop start at n → isPlain (toldAt v tokens beyond at) ≡ true →
+      nextAt at (toldAt v tokens beyond at) < stop → PlainTo v tokens beyond stop start (nextAt at (toldAt v tokens beyond at)) (suc n)
 
 -- they lead to an instruction that is not plain, or behind which the next one does not begin before `stop`
 pub record Stretched (v : Version) (tokens : List ℕ) (start stop beyond : ℕ) (r : Stretch) : Type 0 where
-  pub leads : Leads v tokens beyond stop start (r .at) (r .count)
+  pub leads : PlainTo v tokens beyond stop start (r .at) (r .count)
   pub is : r .told ≡ toldAt v tokens beyond (r .at)
   pub ends : (isPlain (r .told) && ltb (nextAt (r .at) (r .told)) stop) ≡ false

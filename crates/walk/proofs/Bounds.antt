@@ -14,7 +14,7 @@ use Rattle.paper.specs.InstructionToken.{opcodeOf, statedSize, isPredicated, wi
 use Rattle.paper.specs.OperandTokens.{tokenAt, bringsRelative, leftOver, refusedOperands}
 use Rattle.paper.specs.Dcl.{declaration, declaredAt, onDeclared, usageLaid}
 use Rattle.paper.specs.OperandTokens.{typeOf}
-use Rattle.paper.specs.Instruction.{Head, broken, end, comment, dcl, operation, headOf, head, onToken, relativeToken, operand, onTaken, operands, onOperands, within, onHead, judged}
+use Rattle.paper.specs.Instruction.{Head, broken, end, comment, dcl, operation, headOf, tokenHead, onToken, relativeToken, operand, onTaken, operands, onOperands, within, byHead, judged}
 use Rattle.paper.specs.Blocks.{classOf}
 use Rattle.paper.specs.declared.Version.{Version}
 use Rattle.paper.specs.declared.Reason.the-variants.{Bits as BITS, RunOut as RUN-OUT, Operand as OPERAND}
@@ -120,7 +120,7 @@ module _ (rest : List ℕ) (size : ℕ) where
       by-size true e (unfit r) = omega arith
       by-size false e o = omega arith
 
-head-near : (v : Version) (h : Head) (class : Class) (rest : List ℕ) → refusedAt (onHead v h class rest) ≤ length rest
+head-near : (v : Version) (h : Head) (class : Class) (rest : List ℕ) → refusedAt (byHead v h class rest) ≤ length rest
 head-near v (broken reason) class rest = omega arith
 head-near v end class rest = omega arith
 head-near v (comment n) class rest = on-operands rest n Fit (One Comment) (omega arith)
@@ -129,7 +129,7 @@ head-near v (operation ps size) class rest =
     on-operands rest size (operands v ps 1 (take size rest)) class
     (omega (arith, operands-near v ps 1 (take size rest) (omega arith)))
 
-head-in : (v : Version) (h : Head) (class : Class) (rest : List ℕ) → taken (onHead v h class rest) ≤ length rest
+head-in : (v : Version) (h : Head) (class : Class) (rest : List ℕ) → taken (byHead v h class rest) ≤ length rest
 head-in v (broken reason) class rest = omega arith
 head-in v end class rest = omega arith
 head-in v (comment n) class rest = in-size rest n Fit (One Comment)
@@ -140,10 +140,10 @@ head-in v (operation ps size) class rest = in-size rest size (operands v ps 1 (t
 pub judged-near : (v : Version) (tokens : List ℕ) → 0 < length tokens → refusedAt (judged v tokens) < length tokens
 unfolding judged
 judged-near v [] h = absurd (omega arith)
-judged-near v (token ∷ rest) h = omega (arith, head-near v (head v token) (classOf (opcodeOf token)) rest)
+judged-near v (token ∷ rest) h = omega (arith, head-near v (tokenHead v token) (classOf (opcodeOf token)) rest)
 
 -- a good instruction takes tokens that are there
 pub judged-in : (v : Version) (tokens : List ℕ) → 0 < length tokens → taken (judged v tokens) < length tokens
 unfolding judged
 judged-in v [] h = absurd (omega arith)
-judged-in v (token ∷ rest) h = omega (arith, head-in v (head v token) (classOf (opcodeOf token)) rest)
+judged-in v (token ∷ rest) h = omega (arith, head-in v (tokenHead v token) (classOf (opcodeOf token)) rest)

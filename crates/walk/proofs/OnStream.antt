@@ -26,11 +26,11 @@ use Rattle.paper.specs.declared.Verdict.the-variants.{Accepted, Refused as no-v
 use Rattle.blocks.specs.Reach.{here, past}
 use Rattle.blocks.proofs.Cutting.{cut-none, cut-at}
 use Rattle.blocks.proofs.Reach.{reached, reaches-on}
-use Rattle.blocks.specs.Nesting.{nesting, count}
+use Rattle.blocks.specs.Nesting.{nesting, countOf}
 use Rattle.blocks.proofs.Counting.{counts-add, walked-nesting}
 use Rattle.walk.specs.declared.State.{State}
 use Rattle.walk.specs.declared.Stepped.the-variants.{On, Done, Refused}
-use Rattle.walk.specs.Kinds.{numberOf, numbered, nextBy}
+use Rattle.walk.specs.Kinds.{kindsNumber, numbered, nextBy}
 use Rattle.walk.specs.Steps.{wrapped, behindOf, onNextBy, onJudged}
 use Rattle.walk.specs.Stands.{Stands, Ends, stepAt}
 use Rattle.walk.proofs.OpenBlocks.{next-is, step-few}
@@ -59,14 +59,14 @@ step-judged v s state = refl
 -- the walk stands behind the version at first
 
 pub stands-first : (v : Version) (s : List ℕ) → 1 ≤ length s → Stands v s (record { at = 1; count = 0; kinds = 0 })
-unfolding numberOf
+unfolding kindsNumber
 stands-first v s h =
     record { opened = []; numbered = refl; few = omega arith; within = h; counted = omega arith; reaches = here; counts = omega arith }
 
 -- the verdict is that of what is left
 module _ (v : Version) (s : List ℕ) (state : State) (h : Stands v s state) where
-  pub stands-verdict : walked v s ≡ nesting (count (cutFrom v s 1)) (cutFrom v s (state .at)) (h .opened)
-  stands-verdict = walked-nesting v s ∙ reached (h .reaches) (count (cutFrom v s 1))
+  pub stands-verdict : walked v s ≡ nesting (countOf (cutFrom v s 1)) (cutFrom v s (state .at)) (h .opened)
+  stands-verdict = walked-nesting v s ∙ reached (h .reaches) (countOf (cutFrom v s 1))
 
   -- "no token where an instruction must start" is RUN-OUT at the token count
   pub stands-out : length s ≤ state .at → walked v s ≡ no-verdict (refusal RUN-OUT (length s))
@@ -103,15 +103,15 @@ module _ (v : Version) (s : List ℕ) (state : State) (h : Stands v s state) (lt
     behind-is : (kinds : ℕ) → behindOf state size class kinds ≡ stateAt (state .at + suc size) (counts class (state .count)) kinds
     behind-is kinds = rw (at-behind, count-behind)
 
-    counts-behind : count (cutFrom v s 1) ≡ counts class (state .count) + count (cutFrom v s (state .at + suc size))
-    unfolding count
+    counts-behind : countOf (cutFrom v s 1) ≡ counts class (state .count) + countOf (cutFrom v s (state .at + suc size))
+    unfolding countOf
     counts-behind =
         h .counts
-        ∙ ap (λ (a : Cut). state .count + count a) cut-good
-        ∙ counts-add class (state .count) (count (cutFrom v s (state .at + suc size)))
+        ∙ ap (λ (a : Cut). state .count + countOf a) cut-good
+        ∙ counts-add class (state .count) (countOf (cutFrom v s (state .at + suc size)))
 
     stands-behind : (ls : List Kind) → step (h .opened) class ≡ go ls →
-        Stands v s (stateAt (state .at + suc size) (counts class (state .count)) (numberOf ls))
+        Stands v s (stateAt (state .at + suc size) (counts class (state .count)) (kindsNumber ls))
     stands-behind ls f =
         record {
           opened = ls;
@@ -138,7 +138,7 @@ module _ (v : Version) (s : List ℕ) (state : State) (h : Stands v s state) (lt
     on-next : (x : Said) → step (h .opened) class ≡ x → (next : State) → onNextBy (numbered x) state size class ≡ On next →
         Stands v s next × (state .at < next .at)
     on-next (go ls) f next g =
-        let same : stateAt (state .at + suc size) (counts class (state .count)) (numberOf ls) ≡ next = sym (behind-is (numberOf ls)) ∙ cc in
+        let same : stateAt (state .at + suc size) (counts class (state .count)) (kindsNumber ls) ≡ next = sym (behind-is (kindsNumber ls)) ∙ cc in
         let moved : state .at + suc size ≡ next .at = ap (λ (x : State). x .at) same in
         (rw same at (stands-behind ls f), omega arith)
     on-next (bad reason) f next g = let z : _≡_ {A = ℕ} 0 1 = cc in absurd (omega arith)
@@ -206,13 +206,13 @@ module _ (v : Version) (s : List ℕ) (state : State) (h : Stands v s state) (lt
 
 module _ (v : Version) (s : List ℕ) (state : State) (h : Ends v s state) where
   pub ends-accepted : length s ≤ state .at → walked v s ≡ Accepted (state .count)
-  unfolding count
+  unfolding countOf
   ends-accepted le =
       let none = cut-none v s (state .at) le in
-      let total : count (cutFrom v s 1) ≡ state .count = rw (none, add-zero (state .count)) at (h .counts) in
+      let total : countOf (cutFrom v s 1) ≡ state .count = rw (none, add-zero (state .count)) at (h .counts) in
       h .verdict ∙ rw none (ap Accepted total)
 
-  tail-cut : (x : Judged) → atEnd (count (cutFrom v s 1)) (cutOne x (state .at) (λ n. cutFrom v s (state .at + n))) ≡ no-verdict (refusal TAIL (state .at))
+  tail-cut : (x : Judged) → atEnd (countOf (cutFrom v s 1)) (cutOne x (state .at) (λ n. cutFrom v s (state .at + n))) ≡ no-verdict (refusal TAIL (state .at))
   tail-cut (Good size class) = refl
   tail-cut (unfit r) = refl
 

@@ -22,7 +22,7 @@ use Rattle.paper.specs.declared.Closer.the-variants.{Else, EndIf, EndLoop, EndR
 use Rattle.paper.specs.declared.Reason.{Reason}
 use Rattle.paper.specs.declared.Reason.the-variants.{Block as BLOCK, Depth as DEPTH}
 use Rattle.walk.specs.declared.Next.the-variants.{Go, Bad}
-use Rattle.walk.specs.Kinds.{openerDigit, digitOf, numberOf, numbered, loopDigit, loopWithin, inLoopBy, allowedBy, standsBy, opensBy, closesBy, nextBy}
+use Rattle.walk.specs.Kinds.{openerDigit, digitOf, kindsNumber, numbered, loopDigit, loopWithin, inLoopBy, allowedBy, standsBy, opensBy, closesBy, nextBy}
 
 digit-small : (k : Kind) → (1 ≤ digitOf k) × (digitOf k ≤ 4)
 digit-small (opened If) = omega arith
@@ -51,8 +51,8 @@ digit-same pastElse (opened Rep) e = absurd (omega arith)
 digit-same pastElse pastElse e = refl
 
 -- equal numbers are of equal open blocks
-pub number-same : (ks ls : List Kind) → numberOf ks ≡ numberOf ls → ks ≡ ls
-unfolding numberOf
+pub number-same : (ks ls : List Kind) → kindsNumber ks ≡ kindsNumber ls → ks ≡ ls
+unfolding kindsNumber
 number-same [] [] e = refl
 number-same [] (l ∷ ls) e = absurd (omega (arith, digit-small l))
 number-same (k ∷ ks) [] e = absurd (omega (arith, digit-small k))
@@ -63,22 +63,22 @@ number-same (k ∷ ks) (l ∷ ls) e =
 
 -- how many blocks are open is seen from their number
 
-pub number-below : (n : ℕ) (ks : List Kind) → length ks ≤ n → numberOf ks < 5 ^ n
-unfolding numberOf
+pub number-below : (n : ℕ) (ks : List Kind) → length ks ≤ n → kindsNumber ks < 5 ^ n
+unfolding kindsNumber
 number-below zero [] h = omega arith
 number-below zero (k ∷ ks) h = absurd (omega arith)
 number-below (suc n) [] h = rw pow-suc (omega (arith, number-below n [] (omega arith)))
 number-below (suc n) (k ∷ ks) h = rw pow-suc (omega (arith, number-below n ks (omega arith), digit-small k))
 
-pub number-above : (n : ℕ) (ks : List Kind) → n < length ks → 5 ^ n ≤ numberOf ks
-unfolding numberOf
+pub number-above : (n : ℕ) (ks : List Kind) → n < length ks → 5 ^ n ≤ kindsNumber ks
+unfolding kindsNumber
 number-above n [] h = absurd (omega arith)
 number-above zero (k ∷ ks) h = omega (arith, digit-small k)
 number-above (suc n) (k ∷ ks) h = rw pow-suc (omega (arith, number-above n ks (omega arith)))
 
-depth-seen : (ks : List Kind) (below : Bool) → ltb (length ks) mostOpen ≡ below → ltb (numberOf ks) (5 ^ 23) ≡ below
-depth-seen ks true e = lt-ltb (numberOf ks) (5 ^ 23) (number-below 23 ks (omega (arith, ltb-true (length ks) mostOpen e)))
-depth-seen ks false e = le-ltb (numberOf ks) (5 ^ 23) (number-above 23 ks (omega (arith, ltb-false (length ks) mostOpen e)))
+depth-seen : (ks : List Kind) (below : Bool) → ltb (length ks) mostOpen ≡ below → ltb (kindsNumber ks) (5 ^ 23) ≡ below
+depth-seen ks true e = lt-ltb (kindsNumber ks) (5 ^ 23) (number-below 23 ks (omega (arith, ltb-true (length ks) mostOpen e)))
+depth-seen ks false e = le-ltb (kindsNumber ks) (5 ^ 23) (number-above 23 ks (omega (arith, ltb-false (length ks) mostOpen e)))
 
 -- the digits
 
@@ -88,10 +88,10 @@ last n k = omega (arith, digit-small k)
 others : (n : ℕ) (k : Kind) → (n * 5 + digitOf k) / 5 ≡ n
 others n k = omega (arith, digit-small k)
 
-none-open : (ks : List Kind) → eqb (numberOf ks) 0 ≡ isZero (length ks)
-unfolding numberOf
+none-open : (ks : List Kind) → eqb (kindsNumber ks) 0 ≡ isZero (length ks)
+unfolding kindsNumber
 none-open [] = refl
-none-open (k ∷ ks) = ne-eqb (numberOf ks * 5 + digitOf k) 0 (λ e. omega (arith, digit-small k))
+none-open (k ∷ ks) = ne-eqb (kindsNumber ks * 5 + digitOf k) 0 (λ e. omega (arith, digit-small k))
 
 -- the bound on the digits does not matter where it is enough
 pub digits-enough : (f g kinds : ℕ) → kinds ≤ f → kinds ≤ g → loopWithin f kinds ≡ loopWithin g kinds
@@ -119,20 +119,20 @@ loop-digit (opened Loop) within = refl
 loop-digit (opened Rep) within = refl
 loop-digit pastElse within = refl
 
-loop-seen : (ks : List Kind) → inLoopBy (numberOf ks) ≡ inLoop ks
-unfolding numberOf
+loop-seen : (ks : List Kind) → inLoopBy (kindsNumber ks) ≡ inLoop ks
+unfolding kindsNumber
 loop-seen [] = loop-none
 loop-seen (k ∷ ks) =
-    loop-first (numberOf ks * 5 + digitOf k) (λ e. omega (arith, digit-small k))
-    ∙ rw (last (numberOf ks) k, others (numberOf ks) k, loop-seen ks) (loop-digit k (inLoop ks))
+    loop-first (kindsNumber ks * 5 + digitOf k) (λ e. omega (arith, digit-small k))
+    ∙ rw (last (kindsNumber ks) k, others (kindsNumber ks) k, loop-seen ks) (loop-digit k (inLoop ks))
 
 -- the step over numbers is the step over lists
 
-numbered-pick : (b : Bool) (ks : List Kind) → allowedBy b (numberOf ks) ≡ numbered (pick b (go ks) (bad BLOCK))
+numbered-pick : (b : Bool) (ks : List Kind) → allowedBy b (kindsNumber ks) ≡ numbered (pick b (go ks) (bad BLOCK))
 numbered-pick true ks = refl
 numbered-pick false ks = refl
 
-stands-is : (ks : List Kind) (s : Single) → standsBy (numberOf ks) s ≡ numbered (step ks (One s))
+stands-is : (ks : List Kind) (s : Single) → standsBy (kindsNumber ks) s ≡ numbered (step ks (One s))
 stands-is ks Comment = refl
 stands-is ks Plain = refl
 stands-is ks Break = rw (loop-seen ks) (numbered-pick (inLoop ks) ks)
@@ -140,40 +140,40 @@ stands-is ks Label = rw (none-open ks) (numbered-pick (isZero (length ks)) ks)
 stands-is ks Return = rw (none-open ks) (numbered-pick (isZero (length ks)) ks)
 
 opens-cases : (ks : List Kind) (o : Opener) (below : Bool) →
-    pick below (Go (numberOf ks * 5 + openerDigit o)) (Bad DEPTH) ≡ numbered (pick below (go (opened o ∷ ks)) (bad DEPTH))
-unfolding numberOf
+    pick below (Go (kindsNumber ks * 5 + openerDigit o)) (Bad DEPTH) ≡ numbered (pick below (go (opened o ∷ ks)) (bad DEPTH))
+unfolding kindsNumber
 opens-cases ks o true = refl
 opens-cases ks o false = refl
 
-opens-is : (ks : List Kind) (o : Opener) → opensBy (numberOf ks) o ≡ numbered (step ks (Opens o))
+opens-is : (ks : List Kind) (o : Opener) → opensBy (kindsNumber ks) o ≡ numbered (step ks (Opens o))
 opens-is ks o = rw (depth-seen ks (ltb (length ks) mostOpen) refl) (opens-cases ks o (ltb (length ks) mostOpen))
 
 module _ (ks : List Kind) where
-  closes-top : (k : Kind) (c : Closer) → closesBy (numberOf ks * 5 + digitOf k) c ≡ numbered (closeAt c (k ∷ ks))
-  unfolding numberOf
-  closes-top (opened If) Else = rw (last (numberOf ks) (opened If)) (ap Go (omega arith))
-  closes-top (opened If) EndIf = rw (last (numberOf ks) (opened If), others (numberOf ks) (opened If))
-  closes-top (opened If) EndLoop = rw (last (numberOf ks) (opened If))
-  closes-top (opened If) EndRep = rw (last (numberOf ks) (opened If))
+  closes-top : (k : Kind) (c : Closer) → closesBy (kindsNumber ks * 5 + digitOf k) c ≡ numbered (closeAt c (k ∷ ks))
+  unfolding kindsNumber
+  closes-top (opened If) Else = rw (last (kindsNumber ks) (opened If)) (ap Go (omega arith))
+  closes-top (opened If) EndIf = rw (last (kindsNumber ks) (opened If), others (kindsNumber ks) (opened If))
+  closes-top (opened If) EndLoop = rw (last (kindsNumber ks) (opened If))
+  closes-top (opened If) EndRep = rw (last (kindsNumber ks) (opened If))
   closes-top (opened If) End = rw (none-open (opened If ∷ ks))
-  closes-top (opened Loop) Else = rw (last (numberOf ks) (opened Loop))
-  closes-top (opened Loop) EndIf = rw (last (numberOf ks) (opened Loop))
-  closes-top (opened Loop) EndLoop = rw (last (numberOf ks) (opened Loop), others (numberOf ks) (opened Loop))
-  closes-top (opened Loop) EndRep = rw (last (numberOf ks) (opened Loop))
+  closes-top (opened Loop) Else = rw (last (kindsNumber ks) (opened Loop))
+  closes-top (opened Loop) EndIf = rw (last (kindsNumber ks) (opened Loop))
+  closes-top (opened Loop) EndLoop = rw (last (kindsNumber ks) (opened Loop), others (kindsNumber ks) (opened Loop))
+  closes-top (opened Loop) EndRep = rw (last (kindsNumber ks) (opened Loop))
   closes-top (opened Loop) End = rw (none-open (opened Loop ∷ ks))
-  closes-top (opened Rep) Else = rw (last (numberOf ks) (opened Rep))
-  closes-top (opened Rep) EndIf = rw (last (numberOf ks) (opened Rep))
-  closes-top (opened Rep) EndLoop = rw (last (numberOf ks) (opened Rep))
-  closes-top (opened Rep) EndRep = rw (last (numberOf ks) (opened Rep), others (numberOf ks) (opened Rep))
+  closes-top (opened Rep) Else = rw (last (kindsNumber ks) (opened Rep))
+  closes-top (opened Rep) EndIf = rw (last (kindsNumber ks) (opened Rep))
+  closes-top (opened Rep) EndLoop = rw (last (kindsNumber ks) (opened Rep))
+  closes-top (opened Rep) EndRep = rw (last (kindsNumber ks) (opened Rep), others (kindsNumber ks) (opened Rep))
   closes-top (opened Rep) End = rw (none-open (opened Rep ∷ ks))
-  closes-top pastElse Else = rw (last (numberOf ks) pastElse)
-  closes-top pastElse EndIf = rw (last (numberOf ks) pastElse, others (numberOf ks) pastElse)
-  closes-top pastElse EndLoop = rw (last (numberOf ks) pastElse)
-  closes-top pastElse EndRep = rw (last (numberOf ks) pastElse)
+  closes-top pastElse Else = rw (last (kindsNumber ks) pastElse)
+  closes-top pastElse EndIf = rw (last (kindsNumber ks) pastElse, others (kindsNumber ks) pastElse)
+  closes-top pastElse EndLoop = rw (last (kindsNumber ks) pastElse)
+  closes-top pastElse EndRep = rw (last (kindsNumber ks) pastElse)
   closes-top pastElse End = rw (none-open (pastElse ∷ ks))
 
-closes-is : (ks : List Kind) (c : Closer) → closesBy (numberOf ks) c ≡ numbered (step ks (Closes c))
-unfolding numberOf
+closes-is : (ks : List Kind) (c : Closer) → closesBy (kindsNumber ks) c ≡ numbered (step ks (Closes c))
+unfolding kindsNumber
 closes-is [] Else = refl
 closes-is [] EndIf = refl
 closes-is [] EndLoop = refl
@@ -181,7 +181,7 @@ closes-is [] EndRep = refl
 closes-is [] End = refl
 closes-is (k ∷ ks) c = closes-top ks k c
 
-pub next-is : (ks : List Kind) (c : Class) → nextBy (numberOf ks) c ≡ numbered (step ks c)
+pub next-is : (ks : List Kind) (c : Class) → nextBy (kindsNumber ks) c ≡ numbered (step ks c)
 next-is ks (One s) = stands-is ks s
 next-is ks (Opens o) = opens-is ks o
 next-is ks (Closes c) = closes-is ks c

@@ -8,7 +8,7 @@ use lib.ListN.{length, drop}
 use Rattle.paper.specs.Instruction.{judged}
 use Rattle.paper.specs.declared.Version.{Version}
 use Rattle.told.specs.Numbered.{judgedNumber, judgedFrom}
-use Rattle.stretches.specs.Stretch.{toldAt, nextAt, Leads, here, past, Stretched}
+use Rattle.stretches.specs.Stretch.{toldAt, nextAt, PlainTo, here, past, Stretched}
 use Rattle.stretches.specs.declared.Stretch.{Stretch}
 use Rattle.stretches.proofs.Stretches.{plain-judged}
 use Rattle.walk.specs.declared.State.{State}
@@ -37,7 +37,7 @@ module _
     abbrev Passed : ℕ → ℕ → Type 0
     Passed q n = Stands v s (stateOf (place q) (state .count + n) (state .kinds)) × (p ≤ q) × (q < stop)
 
-    stretch-stands : {q n : ℕ} → Leads v part beyond stop p q n → Passed q n
+    stretch-stands : {q n : ℕ} → PlainTo v part beyond stop p q n → Passed q n
     stretch-stands here = (rw (begins, add-zero (state .count)) stands, omega arith, before)
     stretch-stands (past {at} {n} l plain less) =
         let passed = stretch-stands l in

@@ -27,13 +27,13 @@ abbrev pub digitOf : Kind → ℕ
 digitOf (opened o) = openerDigit o
 digitOf pastElse = 4
 
-unfoldable pub numberOf : List Kind → ℕ
-numberOf [] = 0
-numberOf (k ∷ ks) = numberOf ks * 5 + digitOf k
+unfoldable pub kindsNumber : List Kind → ℕ
+kindsNumber [] = 0
+kindsNumber (k ∷ ks) = kindsNumber ks * 5 + digitOf k
 
 -- what the walk with open blocks does next, said by their number
 abbrev pub numbered : Said → Next
-numbered (go ks) = Go (numberOf ks)
+numbered (go ks) = Go (kindsNumber ks)
 numbered (bad reason) = Bad reason
 numbered finish = Finish
 

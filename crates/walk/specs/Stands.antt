@@ -8,27 +8,27 @@ use Rattle.paper.specs.Walk.{Kind, atEnd}
 use Rattle.paper.specs.Stream.{cutFrom, walked}
 use Rattle.paper.specs.declared.Version.{Version}
 use Rattle.blocks.specs.Reach.{Reaches}
-use Rattle.blocks.specs.Nesting.{count}
+use Rattle.blocks.specs.Nesting.{countOf}
 use Rattle.walk.specs.declared.State.{State}
 use Rattle.walk.specs.declared.Stepped.{Stepped}
-use Rattle.walk.specs.Kinds.{numberOf}
+use Rattle.walk.specs.Kinds.{kindsNumber}
 use Rattle.walk.specs.Steps.{onJudged}
 
 -- The walk of the stream comes to this position with these blocks open, past so many instructions.
 pub record Stands (v : Version) (s : List ℕ) (state : State) : Type 0 where
   pub opened : List Kind
-  pub numbered : state .kinds ≡ numberOf opened
+  pub numbered : state .kinds ≡ kindsNumber opened
   pub few : length opened ≤ 24
   pub within : state .at ≤ length s
   pub counted : state .count ≤ state .at
   pub reaches : Reaches (cutFrom v s 1) [] (cutFrom v s (state .at)) opened
-  pub counts : count (cutFrom v s 1) ≡ state .count + count (cutFrom v s (state .at))
+  pub counts : countOf (cutFrom v s 1) ≡ state .count + countOf (cutFrom v s (state .at))
 
 -- The walk of the stream is behind an END that finishes it.
 pub record Ends (v : Version) (s : List ℕ) (state : State) : Type 0 where
   pub within : state .at ≤ length s
-  pub verdict : walked v s ≡ atEnd (count (cutFrom v s 1)) (cutFrom v s (state .at))
-  pub counts : count (cutFrom v s 1) ≡ state .count + count (cutFrom v s (state .at))
+  pub verdict : walked v s ≡ atEnd (countOf (cutFrom v s 1)) (cutFrom v s (state .at))
+  pub counts : countOf (cutFrom v s 1) ≡ state .count + countOf (cutFrom v s (state .at))
 
 -- the step at a position of a stream
 unfoldable pub stepAt : Version → List ℕ → State → Stepped

@@ -22,7 +22,7 @@ use Rattle.records.specs.Encoded.{ordered}
 use Rattle.records.proofs.Declared.{or-false}
 use Rattle.records.proofs.Filled.{width-some}
 use Rattle.records.proofs.Passed.{Passed, AllPassed, none, more}
-use Rattle.writer.specs.Tokens.{Words, tokenOf, operandToken, relativeToken, operandTokens, rowTokens}
+use Rattle.writer.specs.Tokens.{Words, tokenOf, operandToken, relativeTokenOf, operandTokens, rowTokens}
 use Rattle.writer.proofs.Digits.{token-back, source-middle, destination-middle}
 
 module _ (v : Version) (place : Place) (t : ℕ) (word : t < 2 ^ 32) where
@@ -73,8 +73,8 @@ module _ (v : Version) (place : Place) (t u : ℕ) (no-raw : isRaw place ≡ fal
   first-back word l true d = rw (no-raw, d) (destination-back v place t word u (taken (isDestination place) (destinationLaid v place t) (sourceLaid v place t) d (sym (laid-by v place t no-raw) ∙ l)))
   first-back word l false d = rw (no-raw, d) (source-back v place t word u (left (isDestination place) (destinationLaid v place t) (sourceLaid v place t) d (sym (laid-by v place t no-raw) ∙ l)))
 
-  second-back : u < 2 ^ 32 → laid v relative u ≡ true → (destination : Bool) → isDestination place ≡ destination → relativeToken (operandOf place t u) ≡ u
-  unfolding operandOf relativeToken
+  second-back : u < 2 ^ 32 → laid v relative u ≡ true → (destination : Bool) → isDestination place ≡ destination → relativeTokenOf (operandOf place t u) ≡ u
+  unfolding operandOf relativeTokenOf
   second-back word l true d = rw (no-raw, d) (relative-back v u word l)
   second-back word l false d = rw (no-raw, d) (relative-back v u word l)
 

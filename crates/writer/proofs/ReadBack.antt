@@ -7,7 +7,7 @@ use lib.ListN.{length, take}
 use borrow.Author.Tests.{eq-eqb, le-leb}
 use Rattle.paper.specs.Notation.{bit}
 use Rattle.paper.specs.InstructionToken.{opcodeOf, commentOpcode, commentLength}
-use Rattle.paper.specs.Instruction.{comment, head, judged}
+use Rattle.paper.specs.Instruction.{comment, tokenHead, judged}
 use Rattle.paper.specs.declared.Version.{Version}
 use Rattle.paper.specs.declared.Class.{Class}
 use Rattle.paper.specs.declared.Class.the-variants.{One}
@@ -15,19 +15,19 @@ use Rattle.paper.specs.declared.Single.the-variants.{Comment}
 use Rattle.paper.specs.declared.Judged.the-variants.{Good as Lawful}
 use Rattle.records.specs.Record.{commentRecord, recordOf}
 use Rattle.records.proofs.Laws.{record-own, judged-own, comment-record}
-use Rattle.writer.specs.Tokens.{Words, commentToken, tokensOf, bodyOf}
+use Rattle.writer.specs.Tokens.{Words, commentToken, tokensOf, commentBody}
 use Rattle.writer.proofs.WrittenBack.{written-back}
 
 module _ (v : Version) (tokens : List ℕ) {size : ℕ} {class : Class} (words : Words tokens) (j : judged v tokens ≡ Lawful size class) where
-  pub judged-back : judged v (tokensOf v (recordOf v tokens) (bodyOf v tokens)) ≡ Lawful size class
+  pub judged-back : judged v (tokensOf v (recordOf v tokens) (commentBody v tokens)) ≡ Lawful size class
   judged-back = rw (written-back v tokens words j) (judged-own v tokens j)
 
-  pub record-back : recordOf v (tokensOf v (recordOf v tokens) (bodyOf v tokens)) ≡ recordOf v tokens
+  pub record-back : recordOf v (tokensOf v (recordOf v tokens) (commentBody v tokens)) ≡ recordOf v tokens
   record-back = rw (written-back v tokens words j) (record-own v tokens j)
 
 -- one record, and one body where it is a comment's, has one instruction
 pub one-instruction : (v : Version) (a b : List ℕ) {m n : ℕ} {c d : Class} → Words a → Words b → judged v a ≡ Lawful m c → judged v b ≡ Lawful n d →
-    recordOf v a ≡ recordOf v b → bodyOf v a ≡ bodyOf v b → take (suc m) a ≡ take (suc n) b
+    recordOf v a ≡ recordOf v b → commentBody v a ≡ commentBody v b → take (suc m) a ≡ take (suc n) b
 one-instruction v a b words-a words-b j k same body =
     sym (written-back v a words-a j) ∙ rw (same, body) (written-back v b words-b k)
 
@@ -42,8 +42,8 @@ module _ (v : Version) (n : ℕ) (fits : n < 2 ^ 15) where
   comment-laid : bit 31 (commentToken n) ≡ 0
   comment-laid = omega arith
 
-  comment-head : head v (commentToken n) ≡ comment n
-  unfolding head
+  comment-head : tokenHead v (commentToken n) ≡ comment n
+  unfolding tokenHead
   comment-head = rw (comment-opcode, eq-eqb _ _ comment-laid, comment-length)
 
   pub comment-written : (body : List ℕ) → tokensOf v (commentRecord n) body ≡ commentToken n ∷ body

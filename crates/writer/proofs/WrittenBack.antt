@@ -11,7 +11,7 @@ use borrow.Author.Tests.{eqb-true, leb-true}
 use Rattle.paper.specs.Notation.{pick, bits}
 use Rattle.paper.specs.InstructionToken.{opcodeOf, statedSize, isPredicated, withPredicate}
 use Rattle.paper.specs.Dcl.{declaration}
-use Rattle.paper.specs.Instruction.{Head, broken, end, comment, dcl, operation, head, operands, onHead, judged}
+use Rattle.paper.specs.Instruction.{Head, broken, end, comment, dcl, operation, tokenHead, operands, byHead, judged}
 use Rattle.paper.specs.Blocks.{classOf}
 use Rattle.paper.specs.declared.Version.{Version}
 use Rattle.paper.specs.declared.Class.{Class}
@@ -26,7 +26,7 @@ use Rattle.records.proofs.Heads.{IsListed, is-end, is-comment, is-dcl, is-opera
 use Rattle.records.proofs.Passed.{AllPassed, all-passed}
 use Rattle.records.proofs.Good.{operands-good, comment-good}
 use Rattle.records.proofs.Declared.{declared-passed}
-use Rattle.writer.specs.Tokens.{Words, rowTokens, rowOf, tokensOf, bodyOn, bodyOf}
+use Rattle.writer.specs.Tokens.{Words, rowTokens, recordPlaces, tokensOf, bodyOn, commentBody}
 use Rattle.writer.proofs.Digits.{instruction-back, comment-back}
 use Rattle.writer.proofs.Operands.{not-true, words-take, single, row-back}
 
@@ -52,7 +52,7 @@ behind-back row tokens passed words few once =
 
 -- an instruction of the table
 module _ (v : Version) (first n : ℕ) (behind : List ℕ) (row : List Place) (l : IsListed v first) (word : first < 2 ^ 32) (stated : statedSize first ≡ n)
-    (sized : length behind ≡ n) (row-is : rowOf (instructionRecord first (arrayOf row behind)) (l .places) ≡ row)
+    (sized : length behind ≡ n) (row-is : recordPlaces (instructionRecord first (arrayOf row behind)) (l .places) ≡ row)
     (back : rowTokens row (arrayOf row behind) (getD (arrayOf row behind) 5 noOperand) ≡ behind) where
   zeros : bits 31 29 first ≡ 0
   zeros = eqb-true _ _ (both-left (eqb (bits 31 29 first) 0) _ (l .laid))
@@ -63,7 +63,7 @@ module _ (v : Version) (first n : ℕ) (behind : List ℕ) (row : List Place) (l
       rw (l .no-comment, l .no-end, l .entry, row-is, back, sized, ← stated, instruction-back first word zeros)
 
 module _ (v : Version) (first : ℕ) (rest : List ℕ) (word : first < 2 ^ 32) (words : Words rest) {size : ℕ} {class : Class} where
-  back-by : (h : Head) (c : Class) → head v first ≡ h → onHead v h c rest ≡ Lawful size class →
+  back-by : (h : Head) (c : Class) → tokenHead v first ≡ h → byHead v h c rest ≡ Lawful size class →
       tokensOf v (recordOn h first rest) (bodyOn h rest) ≡ first ∷ take size rest
   unfolding tokensOf ordered
   back-by (broken reason) c e j = let z : _≡_ {A = ℕ} 0 1 = cc in absurd (omega arith)
@@ -93,8 +93,8 @@ module _ (v : Version) (first : ℕ) (rest : List ℕ) (word : first < 2 ^ 32) (
       (behind-back row (take n rest) passed (words-take n rest words) (operation-few v first row n e) once) [])
 
 pub written-back : (v : Version) (tokens : List ℕ) {size : ℕ} {class : Class} → Words tokens → judged v tokens ≡ Lawful size class →
-    tokensOf v (recordOf v tokens) (bodyOf v tokens) ≡ take (suc size) tokens
-unfolding judged recordOf bodyOf Words
+    tokensOf v (recordOf v tokens) (commentBody v tokens) ≡ take (suc size) tokens
+unfolding judged recordOf commentBody Words
 written-back v [] words j = let z : _≡_ {A = ℕ} 0 1 = cc in absurd (omega arith)
 written-back v (first ∷ rest) words j =
-    back-by v first rest (words 0) (λ k. words (suc k)) (head v first) (classOf (opcodeOf first)) refl j
+    back-by v first rest (words 0) (λ k. words (suc k)) (tokenHead v first) (classOf (opcodeOf first)) refl j

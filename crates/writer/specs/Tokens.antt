@@ -5,7 +5,7 @@ use lib.Dec.{eqb}
 use lib.ListN.{length, take, drop, getD}
 use Rattle.paper.specs.Notation.{pick}
 use Rattle.paper.specs.InstructionToken.{commentOpcode, endOpcode, endToken, withPredicate}
-use Rattle.paper.specs.Instruction.{Head, broken, end, comment, dcl, operation, head}
+use Rattle.paper.specs.Instruction.{Head, broken, end, comment, dcl, operation, tokenHead}
 use Rattle.paper.specs.declared.Version.{Version}
 use Rattle.paper.specs.Places.{Entry, absent, listed, entryOf, Place, isRaw, isPredicate}
 use Rattle.records.specs.declared.Operand.{Operand}
@@ -28,13 +28,13 @@ middleOf operand = operand .mask + operand .swizzle + (2 ^ 4 * operand .result +
 unfoldable pub operandToken : Operand → ℕ
 operandToken operand = tokenOf (operand .number) (operand .kind) (operand .relative) (middleOf operand)
 
-unfoldable pub relativeToken : Operand → ℕ
-relativeToken operand = tokenOf (operand .«relative_number») (operand .«relative_kind») 0 (operand .«relative_swizzle»)
+unfoldable pub relativeTokenOf : Operand → ℕ
+relativeTokenOf operand = tokenOf (operand .«relative_number») (operand .«relative_kind») 0 (operand .«relative_swizzle»)
 
 unfoldable pub operandTokens : Place → Operand → List ℕ
 operandTokens place operand =
     pick (isRaw place) (operand .raw ∷ [])
-    (operandToken operand ∷ pick (eqb (operand .relative) 1) (relativeToken operand ∷ []) [])
+    (operandToken operand ∷ pick (eqb (operand .relative) 1) (relativeTokenOf operand ∷ []) [])
 
 -- the operands of a row of places: those in token order one after the other, and the predicate where the row has it
 unfoldable pub rowTokens : List Place → List Operand → Operand → List ℕ
@@ -50,15 +50,15 @@ instructionToken r size = r .opcode + (2 ^ 16 * r .controls + (2 ^ 24 * size + 2
 abbrev pub commentToken : ℕ → ℕ
 commentToken n = commentOpcode + 2 ^ 16 * n
 
-abbrev pub rowOf : Record → List Place → List Place
-rowOf r places = withPredicate (eqb (r .predicated) 1) places
+abbrev pub recordPlaces : Record → List Place → List Place
+recordPlaces r places = withPredicate (eqb (r .predicated) 1) places
 
-abbrev pub behindOf : Record → List Place → List ℕ
-behindOf r places = rowTokens places (r .operands) (getD (r .operands) 5 noOperand)
+abbrev pub tokensBehind : Record → List Place → List ℕ
+tokensBehind r places = rowTokens places (r .operands) (getD (r .operands) 5 noOperand)
 
 abbrev pub listedTokens : Record → Entry → List ℕ
 listedTokens r absent = []
-listedTokens r (listed places) = instructionToken r (length (behindOf r (rowOf r places))) ∷ behindOf r (rowOf r places)
+listedTokens r (listed places) = instructionToken r (length (tokensBehind r (recordPlaces r places))) ∷ tokensBehind r (recordPlaces r places)
 
 -- the tokens of a record, with a comment's body
 unfoldable pub tokensOf : Version → Record → List ℕ → List ℕ
@@ -75,6 +75,6 @@ bodyOn (comment n) rest = take n rest
 bodyOn (dcl size) rest = []
 bodyOn (operation places size) rest = []
 
-unfoldable pub bodyOf : Version → List ℕ → List ℕ
-bodyOf v [] = []
-bodyOf v (first ∷ rest) = bodyOn (head v first) rest
+unfoldable pub commentBody : Version → List ℕ → List ℕ
+commentBody v [] = []
+commentBody v (first ∷ rest) = bodyOn (tokenHead v first) rest

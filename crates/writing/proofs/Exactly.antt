@@ -16,7 +16,7 @@ use Rattle.writer.specs.Tokens.{tokensOf}
 use Rattle.writing.specs.declared.Written.the-variants.{Wrote}
 use Rattle.writing.specs.Buffer.{pasted}
 use Rattle.writing.specs.Writing.{Writable, ToldWriting, toldWriting, Writes, unnamed, unwritable, cramped, written}
-use Rattle.writing.specs.Decided.{writable, writingIn, contentIn, writingOn, contentOn, writing, bufferAfter}
+use Rattle.writing.specs.Decided.{writable, writingIn, contentIn, writingOn, contentOn, writing, bufferWritten}
 use Rattle.writing.proofs.Yielding.{passed-writable, writable-passes, failed-unwritable, unwritable-fails}
 use Rattle.writing.proofs.Answers.{refused-record, refused-room, yes-written}
 
@@ -42,14 +42,14 @@ module _ (version : ℕ) (r : Record) (body buffer : List ℕ) (at : ℕ) where
   by-name (Known v) n = known-writes v n
   by-name Unknown n = unnamed n
 
-  pub decided-writes : Writes version r body buffer at (toldWriting (writing version r body buffer at)) (bufferAfter version r body buffer at)
-  unfolding writing bufferAfter
+  pub decided-writes : Writes version r body buffer at (toldWriting (writing version r body buffer at)) (bufferWritten version r body buffer at)
+  unfolding writing bufferWritten
   decided-writes = by-name (named version) refl
 
   -- what meets the definition is what the code decides
   pub writes-decided : {told : ToldWriting} {after : List ℕ} → Writes version r body buffer at told after →
-      (told ≡ toldWriting (writing version r body buffer at)) × (after ≡ bufferAfter version r body buffer at)
-  unfolding writing bufferAfter
+      (told ≡ toldWriting (writing version r body buffer at)) × (after ≡ bufferWritten version r body buffer at)
+  unfolding writing bufferWritten
   writes-decided (unnamed n) = (rw n, rw n)
   writes-decided (unwritable {v} n w) =
       let e = refused-record v r body buffer at (unwritable-fails v r body w) in

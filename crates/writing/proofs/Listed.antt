@@ -18,7 +18,7 @@ use Rattle.opcodes.proofs.Laws.{shape-absent, shape-zero, shape-places, decoded
 use Rattle.records.specs.declared.Operand.{Operand}
 use Rattle.records.specs.declared.Record.{Record}
 use Rattle.records.specs.Record.{noOperand}
-use Rattle.writer.specs.Tokens.{rowTokens, rowOf, tokensOf}
+use Rattle.writer.specs.Tokens.{rowTokens, recordPlaces, tokensOf}
 use Rattle.writing.specs.Buffer.{word, headToken, wordsOf, onFront}
 use Rattle.writing.specs.Row.{behindTokens}
 use Rattle.writing.proofs.Paste.{then-first}
@@ -44,7 +44,7 @@ module _ (v : Version) (r : Record) (no-comment : eqb (r .opcode) commentOpcode 
       row : decoded number ≡ places
       row = ap decoded (are ∙ shape-places v (r .opcode) places e) ∙ decoded-digits v (r .opcode) places e
 
-      row-behind : rowTokens (rowOf r places) (r .operands) (getD (r .operands) 5 noOperand) ≡ behindTokens (decoded number) predicated (r .operands)
+      row-behind : rowTokens (recordPlaces r places) (r .operands) (getD (r .operands) 5 noOperand) ≡ behindTokens (decoded number) predicated (r .operands)
       row-behind = rw (is, row) (behind-row (r .operands) (eqb (r .predicated) 1) places (row-unpredicated v (r .opcode) places e))
 
       few-places : length (decoded number) ≤ 5

@@ -11,7 +11,7 @@ use Rattle.paper.specs.Notation.{pick}
 use Rattle.paper.specs.Versions.{versionToken, named}
 use Rattle.paper.specs.Numbers.{refusal}
 use Rattle.paper.specs.InstructionToken.{commentOpcode}
-use Rattle.paper.specs.Instruction.{Head, broken, end, comment, dcl, operation, head, judged}
+use Rattle.paper.specs.Instruction.{Head, broken, end, comment, dcl, operation, tokenHead, judged}
 use Rattle.paper.specs.Stream.{mostTokens}
 use Rattle.paper.specs.declared.Version.{Version}
 use Rattle.paper.specs.declared.Version.the-variants.{V2, V3, P2, P3}
@@ -25,8 +25,8 @@ use Rattle.records.specs.declared.Record.{Record}
 use Rattle.records.specs.Record.{recordOn, recordOf}
 use Rattle.reader.specs.declared.Answer.the-variants.{Got, Refused}
 use Rattle.reader.specs.declared.Reading.{Reading}
-use Rattle.reader.specs.Reading.{refused, got, onJudged, readingAt, reading}
-use Rattle.writer.specs.Tokens.{bodyOn, bodyOf}
+use Rattle.reader.specs.Reading.{unread, got, readJudged, readingAt, reading}
+use Rattle.writer.specs.Tokens.{bodyOn, commentBody}
 
 pub known : (v : Version) → named (versionToken v) ≡ Known v
 known V2 = refl
@@ -56,22 +56,22 @@ never-got reading next r P why a e =
 
 module _ (v : Version) (tokens : List ℕ) (at next : ℕ) (r : Record) where
   by-judged : (j : Judged) → length tokens ≤ mostTokens → at < length tokens → judged v (drop at tokens) ≡ j →
-      onJudged j at (recordOf v (drop at tokens)) ≡ got next r → ReadFrom v tokens at next r
+      readJudged j at (recordOf v (drop at tokens)) ≡ got next r → ReadFrom v tokens at next r
   by-judged (Lawful size class) few some j e =
       let same = same-got (at + size + 1) next (recordOf v (drop at tokens)) r e in
       record { size = size; class = class; few = few; some = some; good = j; record-is = same .1; next-is = same .0 }
   by-judged (Unlawful x) few some j e =
-      never-got (refused (x .reason) (at + x .position)) next r (ReadFrom v tokens at next r) (refusal (x .reason) (at + x .position)) refl e
+      never-got (unread (x .reason) (at + x .position)) next r (ReadFrom v tokens at next r) (refusal (x .reason) (at + x .position)) refl e
 
   by-place : (b : Bool) → length tokens ≤ mostTokens → ltb at (length tokens) ≡ b →
-      pick b (onJudged (judged v (drop at tokens)) at (recordOf v (drop at tokens))) (refused RUN-OUT (length tokens)) ≡ got next r → ReadFrom v tokens at next r
+      pick b (readJudged (judged v (drop at tokens)) at (recordOf v (drop at tokens))) (unread RUN-OUT (length tokens)) ≡ got next r → ReadFrom v tokens at next r
   by-place true few t e = by-judged (judged v (drop at tokens)) few (ltb-true at (length tokens) t) refl e
-  by-place false few t e = never-got (refused RUN-OUT (length tokens)) next r (ReadFrom v tokens at next r) (refusal RUN-OUT (length tokens)) refl e
+  by-place false few t e = never-got (unread RUN-OUT (length tokens)) next r (ReadFrom v tokens at next r) (refusal RUN-OUT (length tokens)) refl e
 
-  by-length : (b : Bool) → leb (length tokens) mostTokens ≡ b → pick b (readingAt v tokens at) (refused LENGTH 0) ≡ got next r → ReadFrom v tokens at next r
+  by-length : (b : Bool) → leb (length tokens) mostTokens ≡ b → pick b (readingAt v tokens at) (unread LENGTH 0) ≡ got next r → ReadFrom v tokens at next r
   unfolding readingAt
   by-length true l e = by-place (ltb at (length tokens)) (leb-true (length tokens) mostTokens l) refl e
-  by-length false l e = never-got (refused LENGTH 0) next r (ReadFrom v tokens at next r) (refusal LENGTH 0) refl e
+  by-length false l e = never-got (unread LENGTH 0) next r (ReadFrom v tokens at next r) (refusal LENGTH 0) refl e
 
   pub read-from : reading (versionToken v) tokens at ≡ got next r → ReadFrom v tokens at next r
   unfolding reading
@@ -92,7 +92,7 @@ module _ (v : Version) where
   body-by (dcl size) first rest n = refl
   body-by (operation row size) first rest n = refl
 
-  pub no-body : (tokens : List ℕ) → eqb (recordOf v tokens .opcode) commentOpcode ≡ false → bodyOf v tokens ≡ []
-  unfolding recordOf bodyOf
+  pub no-body : (tokens : List ℕ) → eqb (recordOf v tokens .opcode) commentOpcode ≡ false → commentBody v tokens ≡ []
+  unfolding recordOf commentBody
   no-body [] n = refl
-  no-body (first ∷ rest) n = body-by (head v first) first rest n
+  no-body (first ∷ rest) n = body-by (tokenHead v first) first rest n

@@ -17,7 +17,7 @@ use Rattle.opcodes.specs.Places.{placeBy, decoded}
 use Rattle.opcodes.proofs.Laws.{decoded-zero, decoded-step}
 use Rattle.records.specs.declared.Operand.{Operand}
 use Rattle.records.specs.Record.{noOperand}
-use Rattle.writer.specs.Tokens.{operandToken, relativeToken, operandTokens, rowTokens}
+use Rattle.writer.specs.Tokens.{operandToken, relativeTokenOf, operandTokens, rowTokens}
 use Rattle.opcodes.proofs.Laws.{unpredicated}
 use Rattle.writer.proofs.Operands.{not-true}
 use Rattle.writing.specs.Buffer.{wordsOf, pasted, onFront}
@@ -30,7 +30,7 @@ module _ (place : Place) (operand : Operand) where
   unfolding operandTokens
   raw-operand e = rw e
 
-  pub two-operand : isRaw place ≡ false → operand .relative ≡ 1 → operandTokens place operand ≡ operandToken operand ∷ (relativeToken operand ∷ [])
+  pub two-operand : isRaw place ≡ false → operand .relative ≡ 1 → operandTokens place operand ≡ operandToken operand ∷ (relativeTokenOf operand ∷ [])
   unfolding operandTokens
   two-operand n e = rw (n, eq-eqb (operand .relative) 1 e)
 
@@ -46,7 +46,7 @@ module _ (place : Place) (operand : Operand) where
 
   pub operand-few : length (operandTokens place operand) ≤ 2
   unfolding operandTokens
-  operand-few = bounded (isRaw place) (eqb (operand .relative) 1) (operand .raw) (operandToken operand) (relativeToken operand)
+  operand-few = bounded (isRaw place) (eqb (operand .relative) 1) (operand .raw) (operandToken operand) (relativeTokenOf operand)
 
   has-some : (unread brings : Bool) (a b c : ℕ) → 1 ≤ length (pick unread (a ∷ []) (b ∷ pick brings (c ∷ []) []))
   has-some true brings a b c = omega arith
@@ -55,7 +55,7 @@ module _ (place : Place) (operand : Operand) where
 
   pub operand-some : 1 ≤ length (operandTokens place operand)
   unfolding operandTokens
-  operand-some = has-some (isRaw place) (eqb (operand .relative) 1) (operand .raw) (operandToken operand) (relativeToken operand)
+  operand-some = has-some (isRaw place) (eqb (operand .relative) 1) (operand .raw) (operandToken operand) (relativeTokenOf operand)
 
 -- one place after the other
 module _ (left : ℕ) (fits : left < 2 ^ 64) (some : left ≡ 0 → ⊥) (held : ℕ) (operands : List Operand) where

@@ -9,7 +9,7 @@ use lib.Seq.{take-length, length-take-le}
 use borrow.Author.Tests.{leb-true}
 use Rattle.paper.specs.Versions.{versionToken}
 use Rattle.paper.specs.InstructionToken.{opcodeOf}
-use Rattle.paper.specs.Instruction.{Head, broken, end, comment, dcl, operation, head, onHead, judged}
+use Rattle.paper.specs.Instruction.{Head, broken, end, comment, dcl, operation, tokenHead, byHead, judged}
 use Rattle.paper.specs.Blocks.{classOf}
 use Rattle.paper.specs.Stream.{mostTokens, verdict}
 use Rattle.paper.specs.declared.Version.{Version}
@@ -24,7 +24,7 @@ use Rattle.cutting.proofs.AcceptedIsACutting.{accepted-is-a-cutting}
 use Rattle.cutting.proofs.OwnTokens.{within-good}
 use Rattle.records.specs.Record.{recordOn, recordOf}
 use Rattle.records.proofs.Heads.{is-comment, is-dcl, is-operation}
-use Rattle.writer.specs.Tokens.{Words, tokensOf, bodyOn, bodyOf}
+use Rattle.writer.specs.Tokens.{Words, tokensOf, bodyOn, commentBody}
 use Rattle.writer.proofs.Operands.{words-drop}
 use Rattle.writer.proofs.WrittenBack.{written-back}
 use Rattle.writing.specs.declared.Written.the-variants.{Wrote}
@@ -38,7 +38,7 @@ use Rattle.writing.proofs.Exactly.{one-writing}
 
 -- the body that was read is as long as the record says
 module _ (v : Version) (first : ℕ) (rest : List ℕ) {size : ℕ} {class : Class} where
-  body-by : (h : Head) (c : Class) → head v first ≡ h → onHead v h c rest ≡ Lawful size class →
+  body-by : (h : Head) (c : Class) → tokenHead v first ≡ h → byHead v h c rest ≡ Lawful size class →
       length (bodyOn h rest) ≡ bodyLength (recordOn h first rest)
   body-by (broken reason) c e j = refl
   body-by end c e j = refl
@@ -47,14 +47,14 @@ module _ (v : Version) (first : ℕ) (rest : List ℕ) {size : ℕ} {class : Cla
   body-by (operation row n) c e j = rw (is-operation v first row n e .found .no-comment)
 
 body-agrees : (v : Version) (first : ℕ) (rest : List ℕ) {size : ℕ} {class : Class} → judged v (first ∷ rest) ≡ Lawful size class →
-    length (bodyOf v (first ∷ rest)) ≡ bodyLength (recordOf v (first ∷ rest))
-unfolding judged recordOf bodyOf
-body-agrees v first rest j = body-by v first rest (head v first) (classOf (opcodeOf first)) refl j
+    length (commentBody v (first ∷ rest)) ≡ bodyLength (recordOf v (first ∷ rest))
+unfolding judged recordOf commentBody
+body-agrees v first rest j = body-by v first rest (tokenHead v first) (classOf (opcodeOf first)) refl j
 
 -- one chunk
 module _ (v : Version) (first : ℕ) (rest : List ℕ) {class : Class} (words : Words (first ∷ rest)) (few : suc (length rest) ≤ mostTokens)
     (alone : Alone v first rest class) where
-  chunk-back : tokensOf v (recordOf v (first ∷ rest)) (bodyOf v (first ∷ rest)) ≡ first ∷ rest
+  chunk-back : tokensOf v (recordOf v (first ∷ rest)) (commentBody v (first ∷ rest)) ≡ first ∷ rest
   chunk-back = written-back v (first ∷ rest) words alone ∙ take-length (first ∷ rest)
 
   chunk-yielded : Yielded v (recordOf v (first ∷ rest))
@@ -68,9 +68,9 @@ module _ (v : Version) (first : ℕ) (rest : List ℕ) {class : Class} (words : 
       }
 
   chunk-written : (buffer : List ℕ) (at : ℕ) → at + suc (length rest) ≤ length buffer →
-      Writes (versionToken v) (recordOf v (first ∷ rest)) (bodyOf v (first ∷ rest)) buffer at (toldWriting (Wrote (at + suc (length rest)))) (pasted buffer at (first ∷ rest))
+      Writes (versionToken v) (recordOf v (first ∷ rest)) (commentBody v (first ∷ rest)) buffer at (toldWriting (Wrote (at + suc (length rest)))) (pasted buffer at (first ∷ rest))
   chunk-written buffer at h =
-      let own : Writes (versionToken v) (recordOf v (first ∷ rest)) (bodyOf v (first ∷ rest)) buffer at _ _ =
+      let own : Writes (versionToken v) (recordOf v (first ∷ rest)) (commentBody v (first ∷ rest)) buffer at _ _ =
       written (known v) (record { yielded = chunk-yielded; agrees = body-agrees v first rest alone }) (rw chunk-back h) in
       rw chunk-back at own
 

@@ -11,7 +11,7 @@ use borrow.Author.Tests.{eqb-true, eq-eqb, leb-true, leb-false, le-leb}
 use Rattle.paper.specs.Notation.{pick}
 use Rattle.paper.specs.Versions.{versionToken}
 use Rattle.paper.specs.InstructionToken.{opcodeOf, commentOpcode}
-use Rattle.paper.specs.Instruction.{Head, broken, end, comment, dcl, operation, head, onHead, judged}
+use Rattle.paper.specs.Instruction.{Head, broken, end, comment, dcl, operation, tokenHead, byHead, judged}
 use Rattle.paper.specs.Blocks.{classOf}
 use Rattle.paper.specs.Stream.{mostTokens}
 use Rattle.paper.specs.declared.Version.{Version}
@@ -115,7 +115,7 @@ module _ (v : Version) (tokens : List ℕ) (at next : ℕ) (r : Record) (words :
 
   -- a yielded comment
   module _ (first : ℕ) (rest : List ℕ) where
-    comment-by : (h : Head) (class : Class) → head v first ≡ h → onHead v h class rest ≡ Lawful (f .size) (f .class) → eqb (recordOn h first rest .opcode) commentOpcode ≡ true →
+    comment-by : (h : Head) (class : Class) → tokenHead v first ≡ h → byHead v h class rest ≡ Lawful (f .size) (f .class) → eqb (recordOn h first rest .opcode) commentOpcode ≡ true →
         (recordOn h first rest ≡ commentRecord (recordOn h first rest .length)) × (recordOn h first rest .length ≤ length rest)
     comment-by (broken reason) class e j o = let z : _≡_ {A = ℕ} 0 1 = cc in absurd (omega arith)
     comment-by end class e j o = let z : _≡_ {A = ℕ} 0 1 = cc in absurd (omega arith)
@@ -133,7 +133,7 @@ module _ (v : Version) (tokens : List ℕ) (at next : ℕ) (r : Record) (words :
   unfolding judged recordOf
   comment-of [] t j o = let z : _≡_ {A = ℕ} 0 1 = cc in absurd (omega arith)
   comment-of (first ∷ rest) t j o =
-      let it = comment-by first rest (head v first) (classOf (opcodeOf first)) refl j o in
+      let it = comment-by first rest (tokenHead v first) (classOf (opcodeOf first)) refl j o in
       (it .0, omega (arith, it .1))
 
   yields-comment : eqb (r .opcode) commentOpcode ≡ true → yieldedComment r ≡ true

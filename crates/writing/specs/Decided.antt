@@ -75,5 +75,5 @@ abbrev pub contentOn : Named → Record → List ℕ → List ℕ → ℕ → Li
 contentOn (Known v) r body buffer at = contentIn v r body buffer at
 contentOn Unknown r body buffer at = buffer
 
-unfoldable pub bufferAfter : ℕ → Record → List ℕ → List ℕ → ℕ → List ℕ
-bufferAfter version r body buffer at = contentOn (named version) r body buffer at
+unfoldable pub bufferWritten : ℕ → Record → List ℕ → List ℕ → ℕ → List ℕ
+bufferWritten version r body buffer at = contentOn (named version) r body buffer at

@@ -4,7 +4,7 @@ use mathlib.Core.List.{List, [], _∷_}
 use Rattle.paper.specs.declared.Version.{Version}
 use Rattle.records.specs.declared.Record.{Record}
 use Rattle.records.specs.Record.{recordOf}
-use Rattle.writer.specs.Tokens.{bodyOf}
+use Rattle.writer.specs.Tokens.{commentBody}
 use Rattle.writing.specs.declared.Written.the-variants.{Wrote}
 use Rattle.writing.specs.Writing.{toldWriting, Writes}
 
@@ -16,7 +16,7 @@ pub record Piece : Type 0 where
 -- what is read from chunks of tokens, each comment's body beside its record
 abbrev pub piecesOf : Version → List (List ℕ) → List Piece
 piecesOf v [] = []
-piecesOf v (chunk ∷ chunks) = record { instruction = recordOf v chunk; body = bodyOf v chunk } ∷ piecesOf v chunks
+piecesOf v (chunk ∷ chunks) = record { instruction = recordOf v chunk; body = commentBody v chunk } ∷ piecesOf v chunks
 
 -- the writer says yes to each piece, at the place that the one before it gave: from a buffer and a place to the buffer and the place behind
 -- the last piece

@@ -11,7 +11,7 @@ ghost use Rattle.paper.specs.Numbers.{refusal};
 ghost use Rattle.paper.specs.InstructionToken.{commentOpcode};
 ghost use Rattle.opcodes.specs.Places.{placeBy, decoded};
 ghost use Rattle.reader.specs.Reading.{reading};
-ghost use Rattle.writer.specs.Tokens.{operandToken, relativeToken, operandTokens, commentToken, tokensOf};
+ghost use Rattle.writer.specs.Tokens.{operandToken, relativeTokenOf, operandTokens, commentToken, tokensOf};
 ghost use Rattle.writing.specs.Same.{sameOperand, sameFields, sameRecord};
 ghost use Rattle.writing.specs.Buffer.{word, headToken, wordsOf, onFront};
 ghost use Rattle.writing.specs.Writing.{toldWriting, Writes};
@@ -111,7 +111,7 @@ fn operand_token(operand: Operand) -> u32
 }
 
 fn relative_token(operand: Operand) -> u32
-    ensures { λ r. ⌜ r ≡ word (relativeToken operand) ⌝ }
+    ensures { λ r. ⌜ r ≡ word (relativeTokenOf operand) ⌝ }
 {
     let kind = operand.relative_kind as u64;
     let token = operand.relative_number as u64

@@ -3,14 +3,14 @@ use mathlib.Core.Path.{_≡_, refl}
 use native.Mathlib.Omega.{arith}
 use lib.ListN.{length, take, drop}
 use borrow.Author.Needs.{needs}
-use Rattle.bytes.specs.Bytes.{tokensOf}
+use Rattle.bytes.specs.Bytes.{tokensIn}
 use Rattle.bytes.proofs.Tokens.{window-more}
 use Rattle.bytes.proofs.fill.Statement.{statement}
 use Rattle.bytes.proofs.fill.Tie as tie
 
 abbrev Inv-loop : tie.InvT-loop
 Inv-loop window₀ bytes from n k₀ window k =
-    (k ≤ n) × (length window ≡ length window₀) × (take k window ≡ take k (drop from (tokensOf bytes)))
+    (k ≤ n) × (length window ≡ length window₀) × (take k window ≡ take k (drop from (tokensIn bytes)))
 
 abbrev μ-loop : tie.MeasureT-loop
 μ-loop window₀ bytes from n k₀ window k = n - k

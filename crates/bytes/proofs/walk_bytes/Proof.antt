@@ -7,7 +7,7 @@ use borrow.Author.Needs.{needs}
 use Rattle.walk.specs.declared.Stepped.{Stepped}
 use Rattle.walk.specs.Stands.{Stands}
 use Rattle.walk.proofs.OnStream.{stands-first}
-use Rattle.bytes.specs.Bytes.{tokensOf}
+use Rattle.bytes.specs.Bytes.{tokensIn}
 use Rattle.bytes.specs.Views.{Comes}
 use Rattle.bytes.proofs.Tokens.{tokens-length}
 use Rattle.bytes.proofs.Turn.{bytes-out, ends-is}
@@ -15,7 +15,7 @@ use Rattle.bytes.proofs.walk_bytes.Statement.{statement}
 use Rattle.bytes.proofs.walk_bytes.Tie as tie
 
 abbrev Inv-loop : tie.InvT-loop
-Inv-loop version bytes tokens window₀ state₀ window state = (length window ≡ 128) × Stands version (tokensOf bytes) state
+Inv-loop version bytes tokens window₀ state₀ window state = (length window ≡ 128) × Stands version (tokensIn bytes) state
 
 abbrev μ-loop : tie.MeasureT-loop
 μ-loop version bytes tokens window₀ state₀ window state = tokens - state .at
@@ -23,7 +23,7 @@ abbrev μ-loop : tie.MeasureT-loop
 loop-holds : tie.Need-loop-holds Inv-loop μ-loop
 loop-holds c =
     let g = c .before .args in
-    (search needs, stands-first (g .version) (tokensOf (g .bytes .now)) (omega (arith, tokens-length (g .bytes .now) (g .tokens) (c .before .pre .1))))
+    (search needs, stands-first (g .version) (tokensIn (g .bytes .now)) (omega (arith, tokens-length (g .bytes .now) (g .tokens) (c .before .pre .1))))
 
 view-from-requires : tie.Need-view-from-requires Inv-loop μ-loop
 view-from-requires c κs = search needs
@@ -56,7 +56,7 @@ walk-view-requires c κs =
     let view = n .view-from .result in
     let e = n .view-from .ensures in (
       s .pre .1,
-      c .before .before .fill .ensures ∙ ap (λ (at : ℕ). take (view .held) (drop at (tokensOf (s .args .bytes .now)))) (sym (e .0)),
+      c .before .before .fill .ensures ∙ ap (λ (at : ℕ). take (view .held) (drop at (tokensIn (s .args .bytes .now)))) (sym (e .0)),
       e .3,
       l .inv .1,
       omega (arith, e .0),
@@ -71,8 +71,8 @@ abbrev start : tie.After-walk-view Inv-loop μ-loop → tie.Start Inv-loop μ-lo
 start w = viewed w .before .before .before .before .before
 
 came : (w : tie.After-walk-view Inv-loop μ-loop) {x : Stepped} → w .walk-view .result ≡ x →
-    Comes (start w .args .version) (tokensOf (start w .args .bytes .now)) (viewed w .view-from .result .until) x
-came w e = subst (Comes (start w .args .version) (tokensOf (start w .args .bytes .now)) (viewed w .view-from .result .until)) e (w .walk-view .ensures)
+    Comes (start w .args .version) (tokensIn (start w .args .bytes .now)) (viewed w .view-from .result .until) x
+came w e = subst (Comes (start w .args .version) (tokensIn (start w .args .bytes .now)) (viewed w .view-from .result .until)) e (w .walk-view .ensures)
 
 enum-known-stepped : tie.Need-enum-known-stepped Inv-loop μ-loop
 enum-known-stepped c = search needs

@@ -5,7 +5,7 @@ use borrow.Author.Needs.{needs}
 use Rattle.walk.specs.declared.Stepped.{Stepped}
 use Rattle.walk.specs.Steps.{stateOf}
 use Rattle.walk.specs.Stands.{Stands}
-use Rattle.bytes.specs.Bytes.{tokensOf}
+use Rattle.bytes.specs.Bytes.{tokensIn}
 use Rattle.bytes.specs.Views.{Comes}
 use Rattle.bytes.proofs.Turn.{view-there, view-comes}
 use Rattle.bytes.proofs.walk_view.Statement.{statement}
@@ -13,7 +13,7 @@ use Rattle.bytes.proofs.walk_view.Tie as tie
 
 abbrev Inv-loop : tie.InvT-loop
 Inv-loop version bytes tokens part view beyond stop state₀ state =
-    Stands version (tokensOf bytes) state × (view .start ≤ state .at) × (state .at < view .until)
+    Stands version (tokensIn bytes) state × (view .start ≤ state .at) × (state .at < view .until)
 
 abbrev μ-loop : tie.MeasureT-loop
 μ-loop version bytes tokens part view beyond stop state₀ state = view .until - state .at
@@ -47,7 +47,7 @@ passed : (j : tie.After-judge-stretch Inv-loop μ-loop) →
     let g = start j .args in
     let l = turned j .loop .state in
     let r = j .judge-stretch .result in
-    Stands (g .version) (tokensOf (g .bytes .now)) (stateOf (g .view .start + r .at) (l .count + r .count) (l .kinds)) × (l .at - g .view .start ≤ r .at) × (r .at < g .view .until - g .view .start)
+    Stands (g .version) (tokensIn (g .bytes .now)) (stateOf (g .view .start + r .at) (l .count + r .count) (l .kinds)) × (l .at - g .view .start ≤ r .at) × (r .at < g .view .until - g .view .start)
 passed j =
     let s = start j in
     let g = s .args in
@@ -61,7 +61,7 @@ stretch t = t .before .before .before .before .before
 
 comes : (t : tie.After-step-told Inv-loop μ-loop) →
     let j = stretch t in
-    Comes (start j .args .version) (tokensOf (start j .args .bytes .now)) (turned j .loop .state .at + 1) (t .step-told .result)
+    Comes (start j .args .version) (tokensIn (start j .args .bytes .now)) (turned j .loop .state .at + 1) (t .step-told .result)
 comes t =
     let j = stretch t in
     let s = start j in
@@ -72,10 +72,10 @@ comes t =
 
 came : (t : tie.After-step-told Inv-loop μ-loop) {x : Stepped} → t .step-told .result ≡ x →
     let j = stretch t in
-    Comes (start j .args .version) (tokensOf (start j .args .bytes .now)) (turned j .loop .state .at + 1) x
+    Comes (start j .args .version) (tokensIn (start j .args .bytes .now)) (turned j .loop .state .at + 1) x
 came t e =
     let j = stretch t in
-    subst (Comes (start j .args .version) (tokensOf (start j .args .bytes .now)) (turned j .loop .state .at + 1)) e (comes t)
+    subst (Comes (start j .args .version) (tokensIn (start j .args .bytes .now)) (turned j .loop .state .at + 1)) e (comes t)
 
 add-step-told : tie.Need-add-step-told Inv-loop μ-loop
 add-step-told c =

@@ -2,14 +2,14 @@ use mathlib.Core.Path.{refl, sym}
 use Prim.Native.Nat.{_-_, _≤_}
 use native.Mathlib.Omega.{arith}
 use lib.ListN.{length}
-use Rattle.stretches.specs.Stretch.{Leads, here}
+use Rattle.stretches.specs.Stretch.{PlainTo, here}
 use Rattle.stretches.proofs.Stretches.{told-none, turn-inside, turn-on, turn-last, turn-stop}
 use borrow.Author.Needs.{needs}
 use Rattle.stretches.proofs.judge_stretch.Statement.{statement}
 use Rattle.stretches.proofs.judge_stretch.Tie as tie
 
 abbrev Inv-loop : tie.InvT-loop
-Inv-loop version tokens from stop beyond at₀ count₀ at count = Leads version tokens beyond stop from at count × (count ≤ at)
+Inv-loop version tokens from stop beyond at₀ count₀ at count = PlainTo version tokens beyond stop from at count × (count ≤ at)
 
 abbrev μ-loop : tie.MeasureT-loop
 μ-loop version tokens from stop beyond at₀ count₀ at count = length tokens - at

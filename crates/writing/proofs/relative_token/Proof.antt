@@ -1,4 +1,4 @@
-use Rattle.writer.specs.Tokens.{relativeToken}
+use Rattle.writer.specs.Tokens.{relativeTokenOf}
 use borrow.Author.Needs.{needs}
 use Rattle.writing.proofs.relative_token.Statement.{statement}
 use Rattle.writing.proofs.relative_token.Tie as tie
@@ -37,7 +37,7 @@ cast-result : tie.Need-cast-result
 cast-result c = search needs
 
 returns : tie.Need-returns
-unfolding relativeToken
+unfolding relativeTokenOf
 returns c = search needs
 
 pub relative-token-spec : {M : Type 1} → statement M
