@@ -79,6 +79,100 @@ vectors =
     vector V2 (0x0300001F ∷ 0x00000000 ∷ 0x800F0000 ∷ 0x00000000 ∷ []) 8 2 0 ∷
     -- position in P3
     vector P3 (0x0200001F ∷ 0x80000000 ∷ 0x900F0000 ∷ []) 7 1 0 ∷
+    -- dcl vPos.xy
+    vector P3 (0x0200001F ∷ 0x80000000 ∷ 0x90031000 ∷ []) 0 0 3 ∷
+    -- dcl vFace
+    vector P3 (0x0200001F ∷ 0x80000000 ∷ 0x900F1001 ∷ []) 0 0 3 ∷
+    -- face with another mask than F
+    vector P3 (0x0200001F ∷ 0x80000000 ∷ 0x90011001 ∷ []) 7 2 0 ∷
+    -- face with bit 20
+    vector P3 (0x0200001F ∷ 0x80000000 ∷ 0x901F1001 ∷ []) 7 2 0 ∷
+    -- type 17 with number 2
+    vector P3 (0x0200001F ∷ 0x80000000 ∷ 0x900F1002 ∷ []) 7 2 0 ∷
+    -- type 17 is declared in P3 alone
+    vector P2 (0x0200001F ∷ 0x80000000 ∷ 0x900F1000 ∷ []) 8 2 0 ∷
+    -- mov r0, vPos
+    vector P3 (0x02000001 ∷ 0x800F0000 ∷ 0x90E41000 ∷ []) 0 0 3 ∷
+    -- type 17 as a source in V3
+    vector V3 (0x02000001 ∷ 0x800F0000 ∷ 0x90E41000 ∷ []) 8 2 0 ∷
+    -- dcl_2d s0
+    vector P2 (0x0200001F ∷ 0x90000000 ∷ 0xA00F0800 ∷ []) 0 0 3 ∷
+    -- dcl_cube s0
+    vector P3 (0x0200001F ∷ 0x98000000 ∷ 0xA00F0800 ∷ []) 0 0 3 ∷
+    -- dcl_volume s1
+    vector V3 (0x0200001F ∷ 0xA0000000 ∷ 0xA00F0801 ∷ []) 0 0 3 ∷
+    -- texture type 1
+    vector P2 (0x0200001F ∷ 0x88000000 ∷ 0xA00F0800 ∷ []) 7 1 0 ∷
+    -- texture type 5
+    vector P3 (0x0200001F ∷ 0xA8000000 ∷ 0xA00F0800 ∷ []) 7 1 0 ∷
+    -- a sampler in V2
+    vector V2 (0x0200001F ∷ 0x90000000 ∷ 0xA00F0800 ∷ []) 8 2 0 ∷
+    -- the second source of TEX is no sampler
+    vector P2 (0x03000042 ∷ 0x800F0000 ∷ 0xB0E40000 ∷ 0xA0E40000 ∷ []) 8 3 0 ∷
+    -- setp_gt p0, r0, r1
+    vector P3 (0x0301005E ∷ 0xB00F1000 ∷ 0x80E40000 ∷ 0x80E40001 ∷ []) 0 0 4 ∷
+    -- setp_le p0, r0, r1
+    vector V3 (0x0306005E ∷ 0xB00F1000 ∷ 0x80E40000 ∷ 0x80E40001 ∷ []) 0 0 4 ∷
+    -- SETP with controls 0
+    vector V3 (0x0300005E ∷ 0xB00F1000 ∷ 0x80E40000 ∷ 0x80E40001 ∷ []) 4 0 0 ∷
+    -- SETP with controls 7
+    vector P3 (0x0307005E ∷ 0xB00F1000 ∷ 0x80E40000 ∷ 0x80E40001 ∷ []) 4 0 0 ∷
+    -- if_gt r0.x, r1.x
+    vector V3 (0x02010029 ∷ 0x80000000 ∷ 0x80000001 ∷ []) 0 0 3 ∷
+    -- if_le r0.x, r1.x
+    vector P3 (0x02060029 ∷ 0x80000000 ∷ 0x80000001 ∷ []) 0 0 3 ∷
+    -- IFC with controls 0
+    vector P3 (0x02000029 ∷ 0x80000000 ∷ 0x80000001 ∷ []) 4 0 0 ∷
+    -- IFC with controls 7
+    vector V3 (0x02070029 ∷ 0x80000000 ∷ 0x80000001 ∷ []) 4 0 0 ∷
+    -- break_eq r0.x, r1.x
+    vector P3 (0x0202002D ∷ 0x80000000 ∷ 0x80000001 ∷ []) 0 0 3 ∷
+    -- BREAKC with controls 0
+    vector V3 (0x0200002D ∷ 0x80000000 ∷ 0x80000001 ∷ []) 4 0 0 ∷
+    -- BREAKC in V2
+    vector V2 (0x0202002D ∷ 0x80000000 ∷ 0x80000001 ∷ []) 3 0 0 ∷
+    -- call l0
+    vector V2 (0x01000019 ∷ 0xA0E41000 ∷ []) 0 0 2 ∷
+    -- CALL of a boolean
+    vector V3 (0x01000019 ∷ 0xE0E40800 ∷ []) 8 1 0 ∷
+    -- CALL in P2
+    vector P2 (0x01000019 ∷ 0xA0E41000 ∷ []) 3 0 0 ∷
+    -- callnz l0, b0
+    vector V2 (0x0200001A ∷ 0xA0E41000 ∷ 0xE0E40800 ∷ []) 0 0 3 ∷
+    -- callnz l0, !p0
+    vector V3 (0x0200001A ∷ 0xA0E41000 ∷ 0xBDE41000 ∷ []) 0 0 3 ∷
+    -- callnz l0, p0 in V2
+    vector V2 (0x0200001A ∷ 0xA0E41000 ∷ 0xB0E41000 ∷ []) 8 2 0 ∷
+    -- callnz l0, !b0
+    vector V3 (0x0200001A ∷ 0xA0E41000 ∷ 0xEDE40800 ∷ []) 7 2 0 ∷
+    -- loop aL, i0
+    vector V3 (0x0200001B ∷ 0xF0E40800 ∷ 0xF0E40000 ∷ []) 0 0 3 ∷
+    -- i0 before aL
+    vector V3 (0x0200001B ∷ 0xF0E40000 ∷ 0xF0E40800 ∷ []) 8 1 0 ∷
+    -- rep i0
+    vector P3 (0x01000026 ∷ 0xF0E40000 ∷ []) 0 0 2 ∷
+    -- defi i0 that holds 0000FFFF
+    vector V2 (0x05000030 ∷ 0xF00F0000 ∷ 0x00000004 ∷ 0x0000FFFF ∷ 0x80000001 ∷ 0x00000000 ∷ []) 0 0 6 ∷
+    -- DEFI of a constant register
+    vector P3 (0x05000030 ∷ 0xA00F0000 ∷ 0x00000004 ∷ 0x00000000 ∷ 0x00000001 ∷ 0x00000000 ∷ []) 8 1 0 ∷
+    -- defb b0, true
+    vector V3 (0x0200002F ∷ 0xE00F0800 ∷ 0x00000001 ∷ []) 0 0 3 ∷
+    -- DEFB in P2
+    vector P2 (0x0200002F ∷ 0xE00F0800 ∷ 0x00000001 ∷ []) 3 0 0 ∷
+    -- (!p0) mov r0, r1
+    vector P3 (0x13000001 ∷ 0x800F0000 ∷ 0x80E40001 ∷ 0xBDE41000 ∷ []) 0 0 4 ∷
+    -- the predicate with modifier 1
+    vector V3 (0x13000001 ∷ 0x800F0000 ∷ 0xA0E40000 ∷ 0xB1E41000 ∷ []) 7 3 0 ∷
+    -- mov o0[aL], r0
+    vector V3 (0x03000001 ∷ 0xE00F2000 ∷ 0xF0E40800 ∷ 0x80E40000 ∷ []) 0 0 4 ∷
+    -- a relative destination in P3
+    vector P3 (0x03000001 ∷ 0x800F2000 ∷ 0xF0E40800 ∷ 0x80E40000 ∷ []) 7 1 0 ∷
+    -- mov r0, c0[aL]
+    vector P3 (0x03000001 ∷ 0x800F0000 ∷ 0xA0E42000 ∷ 0xF0E40800 ∷ []) 0 0 4 ∷
+    -- c0[a0.x] in P3
+    vector P3 (0x03000001 ∷ 0x800F0000 ∷ 0xA0E42000 ∷ 0xB0000000 ∷ []) 8 3 0 ∷
+    -- a relative source in P2
+    vector P2 (0x03000001 ∷ 0x800F0000 ∷ 0xA0E42000 ∷ 0xF0E40800 ∷ []) 7 2 0 ∷
     []
 
 abbrev tells : ToldInstruction → Vector → Bool
