@@ -5,6 +5,6 @@ use Rattle.paper.specs.Instruction.{Head, broken, end, comment, dcl, operation}
 abbrev pub claim : Head → ℕ
 claim (broken reason) = 0
 claim end = 0
-claim (comment length) = length
+claim (comment size) = size
 claim (dcl size) = size
 claim (operation places size) = size

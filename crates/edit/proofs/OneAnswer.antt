@@ -10,11 +10,11 @@ use Rattle.edit.proofs.Standing.{apart}
 
 -- Of two edits one thing is told only if they have one answer.
 pub same-edit : (a b : Edited) → toldEdit a ≡ toldEdit b → a ≡ b
-same-edit (Joined n) (Joined m) e = ap Joined (ap (λ (t : ToldEdit). t .length) e)
+same-edit (Joined n) (Joined m) e = ap Joined (ap (λ (t : ToldEdit). t .tokens) e)
 same-edit (Joined n) (Accepted m) e = apart (sym (ap (λ (t : ToldEdit). t .joined) e))
 same-edit (Joined n) (Refused r) e = absurd (no-reason-zero (r .reason) (ap (λ (t : ToldEdit). t .number) e))
 same-edit (Accepted n) (Joined m) e = apart (ap (λ (t : ToldEdit). t .joined) e)
-same-edit (Accepted n) (Accepted m) e = ap Accepted (ap (λ (t : ToldEdit). t .length) e)
+same-edit (Accepted n) (Accepted m) e = ap Accepted (ap (λ (t : ToldEdit). t .tokens) e)
 same-edit (Accepted n) (Refused r) e = absurd (no-reason-zero (r .reason) (ap (λ (t : ToldEdit). t .number) e))
 same-edit (Refused a) (Joined m) e = absurd (no-reason-zero (a .reason) (sym (ap (λ (t : ToldEdit). t .number) e)))
 same-edit (Refused a) (Accepted m) e = absurd (no-reason-zero (a .reason) (sym (ap (λ (t : ToldEdit). t .number) e)))

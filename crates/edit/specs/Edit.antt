@@ -32,7 +32,7 @@ placed v old i j = isBoundary (standingAt v old i) && (isBoundary (standingAt v 
 
 -- "ROOM (new length against buffer and 16,384)"
 abbrev pub fits : ℕ → ℕ → Bool
-fits room length = leb length room && leb length mostTokens
+fits room tokens = leb tokens room && leb tokens mostTokens
 
 -- "If that walk has a boundary at i + m with the same open blocks, in order, with the same ELSE marks, as the old walk at j": the states meet at the run's end
 unfoldable pub meetsAtEnd : Version → List ℕ → ℕ → ℕ → List ℕ → Bool
@@ -40,8 +40,8 @@ meetsAtEnd v old i j run = meets (standingAt v old j) (standingAt v (splice old 
 
 -- "Otherwise all is read: ACCEPTED, or a refusal at its position in the spliced stream."
 abbrev pub onVerdict : Verdict → ℕ → Edited
-onVerdict (yes-verdict count) length = Accepted length
-onVerdict (no-verdict r) length = Refused r
+onVerdict (yes-verdict count) tokens = Accepted tokens
+onVerdict (no-verdict r) tokens = Refused r
 
 abbrev pub spliced : Version → List ℕ → ℕ → ℕ → List ℕ → Edited
 spliced v old i j run =
@@ -69,8 +69,8 @@ editedIn buffer n i j run = pick (leb n (length buffer)) (edited (length buffer)
 
 -- "Both yeses give the new length; the buffer then holds the splice, and what lies past it is as before"; a refusal leaves it as it was
 abbrev pub heldAfter : Edited → List ℕ → ℕ → ℕ → ℕ → List ℕ → List ℕ
-heldAfter (Joined length) buffer n i j run = splice (take n buffer) i j run ++ drop length buffer
-heldAfter (Accepted length) buffer n i j run = splice (take n buffer) i j run ++ drop length buffer
+heldAfter (Joined tokens) buffer n i j run = splice (take n buffer) i j run ++ drop tokens buffer
+heldAfter (Accepted tokens) buffer n i j run = splice (take n buffer) i j run ++ drop tokens buffer
 heldAfter (Refused r) buffer n i j run = buffer
 
 unfoldable pub bufferAfter : List ℕ → ℕ → ℕ → ℕ → List ℕ → List ℕ
@@ -81,12 +81,12 @@ pub record ToldEdit : Type 0 where
   pub number : ℕ
   pub position : ℕ
   pub joined : ℕ
-  pub length : ℕ
+  pub tokens : ℕ
 
 abbrev pub toldEdit : Edited → ToldEdit
-toldEdit (Joined n) = record { number = 0; position = 0; joined = 1; length = n }
-toldEdit (Accepted n) = record { number = 0; position = 0; joined = 0; length = n }
-toldEdit (Refused r) = record { number = numberOf (r .reason); position = r .position; joined = 0; length = 0 }
+toldEdit (Joined n) = record { number = 0; position = 0; joined = 1; tokens = n }
+toldEdit (Accepted n) = record { number = 0; position = 0; joined = 0; tokens = n }
+toldEdit (Refused r) = record { number = numberOf (r .reason); position = r .position; joined = 0; tokens = 0 }
 
 -- "One function says where a position of the old stream goes": before i it stays, from j on it moves
 abbrev pub carried : ℕ → ℕ → ℕ → ℕ → ℕ

@@ -14,7 +14,7 @@ use Rattle.walk.specs.declared.State.{State}
 
 -- behind the END that finishes a splice: "TAIL: tokens after END"
 abbrev pub editAtEnd : State → ℕ → Edited
-editAtEnd state length = pick (ltb (state .at) length) (Refused (refusal TAIL (state .at))) (Accepted length)
+editAtEnd state tokens = pick (ltb (state .at) tokens) (Refused (refusal TAIL (state .at))) (Accepted tokens)
 
 unfoldable pub afterPlace : Version → ℕ → List ℕ → ℕ → ℕ → List ℕ → Edited
 afterPlace v room old i j run = pick (fits room (newLength (length old) i j (length run))) (spliced v old i j run) (editRefused ROOM)

@@ -131,13 +131,13 @@ fn step_spliced(
 }
 
 // Behind the END that finishes a splice of `length` tokens.
-fn conclude(state: State, length: usize) -> Edited
-    ensures { λ r. ⌜ r ≡ editAtEnd state length ⌝ }
+fn conclude(state: State, tokens: usize) -> Edited
+    ensures { λ r. ⌜ r ≡ editAtEnd state tokens ⌝ }
 {
-    if state.at < length {
+    if state.at < tokens {
         return refused(Reason::Tail, state.at);
     }
-    Edited::Accepted(length)
+    Edited::Accepted(tokens)
 }
 
 // The walk of the splice from i on, where the old stream stands as `first`. At the run's end with the blocks of `last`, where it

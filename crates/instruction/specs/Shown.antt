@@ -24,7 +24,7 @@ use Rattle.instruction.specs.Claimed.{judgedBy}
 abbrev pub roomFor : Head → ℕ → ℕ → ℕ
 roomFor (broken reason) shown left = shown
 roomFor End shown left = shown
-roomFor (Comment length) shown left = left
+roomFor (Comment size) shown left = left
 roomFor (Declaration size) shown left = shown
 roomFor (Operation places size) shown left = shown
 

@@ -74,11 +74,11 @@ fn judge_listed(version: Version, shape: u64, first: u32, behind: &[u32]) -> u64
 }
 
 // Whether so many tokens are there, of which some are shown and `beyond` more are there. No sum is made, which might not fit.
-fn are_there(length: usize, shown: usize, beyond: usize) -> bool
-    ensures { λ r. ⌜ r ≡ leb length (shown + beyond) ⌝ }
+fn are_there(claimed: usize, shown: usize, beyond: usize) -> bool
+    ensures { λ r. ⌜ r ≡ leb claimed (shown + beyond) ⌝ }
 {
-    if shown < length {
-        return length - shown <= beyond;
+    if shown < claimed {
+        return claimed - shown <= beyond;
     }
     true
 }

@@ -16,7 +16,7 @@ use Rattle.instruction_token.specs.declared.Head.the-variants.{Refused, 
 abbrev pub encoded : Said → Head
 encoded (broken reason) = Refused reason
 encoded end = End
-encoded (comment length) = Comment length
+encoded (comment size) = Comment size
 encoded (dcl size) = Declaration size
 encoded (operation places size) = Operation (digits places) size
 
@@ -24,7 +24,7 @@ encoded (operation places size) = Operation (digits places) size
 abbrev pub claimOf : Head → ℕ
 claimOf (Refused reason) = 0
 claimOf End = 0
-claimOf (Comment length) = length
+claimOf (Comment size) = size
 claimOf (Declaration size) = size
 claimOf (Operation places size) = size
 

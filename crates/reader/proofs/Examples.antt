@@ -73,7 +73,7 @@ indexed kind number swizzle by-kind by-number by-swizzle =
 
 instruction : ℕ → ℕ → List Operand → Record
 instruction opcode predicated operands =
-    record { opcode = opcode; controls = 0; predicated = predicated; length = 0; operands = operands }
+    record { opcode = opcode; controls = 0; predicated = predicated; extent = 0; operands = operands }
 
 -- mov r0, c0
 mov : List ℕ

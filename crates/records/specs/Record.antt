@@ -119,7 +119,7 @@ declaredPlaces = usage ∷ declared ∷ []
 
 -- a record without operands
 abbrev pub emptyRecord : ℕ → ℕ → Record
-emptyRecord opcode n = record { opcode = opcode; controls = 0; predicated = 0; length = n; operands = padded 6 [] }
+emptyRecord opcode n = record { opcode = opcode; controls = 0; predicated = 0; extent = n; operands = padded 6 [] }
 
 abbrev pub noRecord : Record
 noRecord = emptyRecord 0 0
@@ -133,7 +133,7 @@ commentRecord n = emptyRecord commentOpcode n
 -- any other instruction, from its first token and its operands
 abbrev pub instructionRecord : ℕ → List Operand → Record
 instructionRecord first operands =
-    record { opcode = opcodeOf first; controls = controlsOf first; predicated = bit 28 first; length = 0; operands = operands }
+    record { opcode = opcodeOf first; controls = controlsOf first; predicated = bit 28 first; extent = 0; operands = operands }
 
 abbrev pub recordOn : Head → ℕ → List ℕ → Record
 recordOn (broken reason) first rest = noRecord

@@ -43,7 +43,7 @@ pub struct Record {
     pub opcode: u32,
     pub controls: u32,
     pub predicated: u32,
-    pub length: u32,
+    pub extent: u32,
     pub operands: [Operand; 6],
 }
 
@@ -177,8 +177,8 @@ fn read_operands(places: u64, behind: &[u32]) -> [Operand; 6]
     operands
 }
 
-fn empty_record(opcode: u32, length: u32) -> Record
-    ensures { λ r. ⌜ r ≡ emptyRecord opcode length ⌝ }
+fn empty_record(opcode: u32, extent: u32) -> Record
+    ensures { λ r. ⌜ r ≡ emptyRecord opcode extent ⌝ }
 {
     let none = raw_operand(0);
     let operands = [none; 6];
@@ -186,7 +186,7 @@ fn empty_record(opcode: u32, length: u32) -> Record
         opcode,
         controls: 0,
         predicated: 0,
-        length,
+        extent,
         operands,
     }
 }
@@ -200,7 +200,7 @@ fn instruction_record(first: u32, places: u64, behind: &[u32]) -> Record
         opcode: first % 0x1_0000,
         controls: first / 0x1_0000 % 0x100,
         predicated: first / 0x1000_0000 % 2,
-        length: 0,
+        extent: 0,
         operands,
     }
 }

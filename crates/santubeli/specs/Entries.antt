@@ -30,9 +30,9 @@ readAnswerOf reading = readAnswer (reading .answer) (reading .instruction)
 
 -- an edit: both yeses have number 0 and give the new length, and joined tells them apart; a refusal has length 0
 abbrev pub editAnswerOf : Edited → EditAnswer
-editAnswerOf (Joined n) = record { number = 0; position = 0; joined = 1; length = n }
-editAnswerOf (Edited-in-full n) = record { number = 0; position = 0; joined = 0; length = n }
-editAnswerOf (Unedited r) = record { number = numberOf (r .reason); position = r .position; joined = 0; length = 0 }
+editAnswerOf (Joined n) = record { number = 0; position = 0; joined = 1; tokens = n }
+editAnswerOf (Edited-in-full n) = record { number = 0; position = 0; joined = 0; tokens = n }
+editAnswerOf (Unedited r) = record { number = numberOf (r .reason); position = r .position; joined = 0; tokens = 0 }
 
 -- a writing: the struct has the number, the position and the next place that are told of it
 abbrev pub writeTold : WriteAnswer → ToldWriting

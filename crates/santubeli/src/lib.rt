@@ -98,24 +98,24 @@ pub struct EditAnswer {
     pub number: u32,
     pub position: usize,
     pub joined: u32,
-    pub length: usize,
+    pub tokens: usize,
 }
 
 fn edit_answer_of(edited: Edited) -> EditAnswer
     ensures { λ r. ⌜ r ≡ editAnswerOf edited ⌝ }
 {
     match edited {
-        Edited::Joined(length) => EditAnswer {
+        Edited::Joined(tokens) => EditAnswer {
             number: 0,
             position: 0,
             joined: 1,
-            length,
+            tokens,
         },
-        Edited::Accepted(length) => EditAnswer {
+        Edited::Accepted(tokens) => EditAnswer {
             number: 0,
             position: 0,
             joined: 0,
-            length,
+            tokens,
         },
         Edited::Refused(refusal) => {
             let reason = refusal.reason;
@@ -123,7 +123,7 @@ fn edit_answer_of(edited: Edited) -> EditAnswer
                 number: paper::number_of(reason),
                 position: refusal.position,
                 joined: 0,
-                length: 0,
+                tokens: 0,
             }
         }
     }

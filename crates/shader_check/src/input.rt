@@ -9,7 +9,7 @@ const MOST_TRIES: u64 = 1_000_000_000;
 
 // The bytes of the input at the front of a buffer. They are whole where the input has ended or the buffer is full; otherwise a read has failed, and errno says why.
 pub struct Input {
-    pub length: usize,
+    pub held: usize,
     pub is_whole: bool,
 }
 
@@ -38,14 +38,14 @@ fn read_some(room: &mut [u8]) -> isize {
 
 // Reads until the input ends, the buffer is full or a read fails.
 pub(crate) fn read_input(buffer: &mut [u8]) -> Input
-    ensures { λ r. ⌜ Counts (r .length) (now (buffer .exit)) ⌝ }
+    ensures { λ r. ⌜ Counts (r .held) (now (buffer .exit)) ⌝ }
 {
     let mut done = 0;
     while done < buffer.len() {
         let got = read_some(&mut buffer[done..]);
         if got < 0 {
             return Input {
-                length: done,
+                held: done,
                 is_whole: false,
             };
         }
@@ -56,7 +56,7 @@ pub(crate) fn read_input(buffer: &mut [u8]) -> Input
         done += more;
     }
     Input {
-        length: done,
+        held: done,
         is_whole: true,
     }
 }

@@ -35,13 +35,13 @@ fn print_verdict(tokens: usize, verdict: Verdict) -> bool {
 fn main() {
     let mut buffer = [0u8; 65537];
     let input = input::read_input(&mut buffer);
-    let length = input.length;
+    let held = input.held;
     if !input.is_whole {
         os::fail(b"shader_check: standard input cannot be read");
         return;
     }
-    let verdict = bytes::check_bytes(&buffer[..length]);
-    if !print_verdict(length / 4, verdict) {
+    let verdict = bytes::check_bytes(&buffer[..held]);
+    if !print_verdict(held / 4, verdict) {
         os::fail(b"shader_check: standard output cannot be written");
     }
 }

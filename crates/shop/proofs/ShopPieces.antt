@@ -36,7 +36,7 @@ abbrev ofCheck : ToldVerdict → Answer
 ofCheck told = answer (told .number) (told .position) (told .count) 0
 
 abbrev ofEdit : ToldEdit → Answer
-ofEdit told = answer (told .number) (told .position) (told .length) (told .joined)
+ofEdit told = answer (told .number) (told .position) (told .tokens) (told .joined)
 
 abbrev given : List ℕ → Asked → Answer
 given tokens check = ofCheck (checked tokens)

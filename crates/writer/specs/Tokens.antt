@@ -63,7 +63,7 @@ listedTokens r (listed places) = instructionToken r (length (tokensBehind r (rec
 -- the tokens of a record, with a comment's body
 unfoldable pub tokensOf : Version → Record → List ℕ → List ℕ
 tokensOf v r body =
-    pick (eqb (r .opcode) commentOpcode) (commentToken (r .length) ∷ body)
+    pick (eqb (r .opcode) commentOpcode) (commentToken (r .extent) ∷ body)
     (pick (eqb (r .opcode) endOpcode) (endToken ∷ [])
     (listedTokens r (entryOf v (r .opcode))))
 

@@ -57,24 +57,24 @@ module _ (v : Version) (r : Record) (body buffer : List ℕ) (at : ℕ) where
 
 -- a comment
 module _ (v : Version) (r : Record) (is : r .opcode ≡ commentOpcode) where
-  pub wrong-length : (n : ℕ) → (n ≡ r .length → ⊥) → writable v r n ≡ false
+  pub wrong-length : (n : ℕ) → (n ≡ r .extent → ⊥) → writable v r n ≡ false
   unfolding writable
-  wrong-length n h = rw (eq-eqb (r .opcode) commentOpcode is, ne-eqb n (r .length) h)
+  wrong-length n h = rw (eq-eqb (r .opcode) commentOpcode is, ne-eqb n (r .extent) h)
 
-  module _ (n : ℕ) (agrees : n ≡ r .length) where
+  module _ (n : ℕ) (agrees : n ≡ r .extent) where
     pub comment-writable : (b : Bool) → yieldedComment r ≡ b → writable v r n ≡ b
     unfolding writable
-    comment-writable b y = rw (eq-eqb (r .opcode) commentOpcode is, eq-eqb n (r .length) agrees) y
+    comment-writable b y = rw (eq-eqb (r .opcode) commentOpcode is, eq-eqb n (r .extent) agrees) y
 
-  pub comment-tokens : (body : List ℕ) → tokensOf v r body ≡ commentToken (r .length) ∷ body
+  pub comment-tokens : (body : List ℕ) → tokensOf v r body ≡ commentToken (r .extent) ∷ body
   unfolding tokensOf
   comment-tokens body = rw (eq-eqb (r .opcode) commentOpcode is)
 
   pub comment-sized : (body : List ℕ) → length (tokensOf v r body) ≡ length body + 1
   comment-sized body = omega (arith, ap length (comment-tokens body))
 
-pub comment-short : (r : Record) → yieldedComment r ≡ true → r .length ≤ longestComment
-comment-short r y = leb-true (r .length) longestComment (both-left (leb (r .length) longestComment) _ y)
+pub comment-short : (r : Record) → yieldedComment r ≡ true → r .extent ≤ longestComment
+comment-short r y = leb-true (r .extent) longestComment (both-left (leb (r .extent) longestComment) _ y)
 
 -- any other record
 module _ (v : Version) (r : Record) (no-comment : eqb (r .opcode) commentOpcode ≡ false) where

@@ -31,16 +31,16 @@ use Rattle.writing.proofs.Exactly.{SaidYes, said-yes}
 
 module _ (v : Version) (r : Record) where
   -- a comment
-  comment-back : (body : List ℕ) → r .opcode ≡ commentOpcode → length body ≡ r .length → yieldedComment r ≡ true →
+  comment-back : (body : List ℕ) → r .opcode ≡ commentOpcode → length body ≡ r .extent → yieldedComment r ≡ true →
       reading (versionToken v) (tokensOf v r body) 0 ≡ got (length (tokensOf v r body)) r
   comment-back body o agrees y =
-      let short = leb-true (r .length) longestComment (both-left (leb (r .length) longestComment) _ y) in
-      let same = record-equal (commentRecord (r .length)) r (both-right (leb (r .length) longestComment) _ y) in
-      let fits : r .length < 2 ^ 15 = omega arith in
-      let good = comment-judged v (r .length) fits body agrees in
-      let read = reads-own v (commentToken (r .length) ∷ body) (omega arith) (omega arith) good in
-      let next : 0 + r .length + 1 ≡ suc (length body) = omega arith in
-      rw (comment-tokens v r o body) (read ∙ (ap (λ n. got n (recordOf v (commentToken (r .length) ∷ body))) next ∙ ap (got (suc (length body))) (comment-read v (r .length) fits body ∙ same)))
+      let short = leb-true (r .extent) longestComment (both-left (leb (r .extent) longestComment) _ y) in
+      let same = record-equal (commentRecord (r .extent)) r (both-right (leb (r .extent) longestComment) _ y) in
+      let fits : r .extent < 2 ^ 15 = omega arith in
+      let good = comment-judged v (r .extent) fits body agrees in
+      let read = reads-own v (commentToken (r .extent) ∷ body) (omega arith) (omega arith) good in
+      let next : 0 + r .extent + 1 ≡ suc (length body) = omega arith in
+      rw (comment-tokens v r o body) (read ∙ (ap (λ n. got n (recordOf v (commentToken (r .extent) ∷ body))) next ∙ ap (got (suc (length body))) (comment-read v (r .extent) fits body ∙ same)))
 
   -- any other record: its tokens are those that were tested, and the reading takes them all
   whole : (tokens : List ℕ) (n : ℕ) → tokens ≡ take n tokens → n ≤ length tokens → n ≡ length tokens
@@ -63,10 +63,10 @@ module _ (v : Version) (r : Record) where
       read ∙ ap (λ k. got k r) (reads-whole (g .next) n (rw same at (are-words (tokensOf v r []))) read)
 
   back-by : (body : List ℕ) (isComment : Bool) → eqb (r .opcode) commentOpcode ≡ isComment →
-      pick isComment (eqb (length body) (r .length) && yieldedComment r) (eqb (length body) 0 && readsBack v r) ≡ true →
+      pick isComment (eqb (length body) (r .extent) && yieldedComment r) (eqb (length body) 0 && readsBack v r) ≡ true →
       reading (versionToken v) (tokensOf v r body) 0 ≡ got (length (tokensOf v r body)) r
   back-by body true c h =
-      comment-back body (eqb-true (r .opcode) commentOpcode c) (eqb-true (length body) (r .length) (both-left (eqb (length body) (r .length)) _ h)) (both-right (eqb (length body) (r .length)) _ h)
+      comment-back body (eqb-true (r .opcode) commentOpcode c) (eqb-true (length body) (r .extent) (both-left (eqb (length body) (r .extent)) _ h)) (both-right (eqb (length body) (r .extent)) _ h)
   back-by body false c h = rw (bodiless v r c body) (other-back c (both-right (eqb (length body) 0) _ h))
 
   -- the tokens of a record that can be written

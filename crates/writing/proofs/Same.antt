@@ -49,7 +49,7 @@ operand-same p q r s t u v w x y z = cc
 
 unfoldable record-of : ℕ → ℕ → ℕ → ℕ → List Operand → Record
 record-of opcode controls predicated size operands =
-    record { opcode = opcode; controls = controls; predicated = predicated; length = size; operands = operands }
+    record { opcode = opcode; controls = controls; predicated = predicated; extent = size; operands = operands }
 
 record-same : {a a' b b' c c' d d' : ℕ} {e e' : List Operand} → a ≡ a' → b ≡ b' → c ≡ c' → d ≡ d' → e ≡ e' → record-of a b c d e ≡ record-of a' b' c' d' e'
 record-same p q r s t = cc
@@ -97,7 +97,7 @@ record-equal a b h =
     let h3 = rest-true (a .controls) (b .controls) _ h2 in
     let h4 = rest-true (a .predicated) (b .predicated) _ h3 in
     record-same (first-same (a .opcode) (b .opcode) _ h1) (first-same (a .controls) (b .controls) _ h2) (first-same (a .predicated) (b .predicated) _ h3)
-    (eqb-true (a .length) (b .length) h4)
+    (eqb-true (a .extent) (b .extent) h4)
     (operands-equal (a .operands) (b .operands) (both-right (sameFields a b) (sameOperands (a .operands) (b .operands)) h))
 
 -- a record is the same as itself
@@ -127,4 +127,4 @@ operands-own (x ∷ a) = rw (operand-own x, operands-own a)
 
 pub record-own : (a : Record) → sameRecord a a ≡ true
 unfolding sameRecord
-record-own a = rw (own (a .opcode), own (a .controls), own (a .predicated), own (a .length), operands-own (a .operands))
+record-own a = rw (own (a .opcode), own (a .controls), own (a .predicated), own (a .extent), operands-own (a .operands))

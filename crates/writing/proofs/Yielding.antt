@@ -116,7 +116,7 @@ module _ (v : Version) (tokens : List ℕ) (at next : ℕ) (r : Record) (words :
   -- a yielded comment
   module _ (first : ℕ) (rest : List ℕ) where
     comment-by : (h : Head) (class : Class) → tokenHead v first ≡ h → byHead v h class rest ≡ Lawful (f .size) (f .class) → eqb (recordOn h first rest .opcode) commentOpcode ≡ true →
-        (recordOn h first rest ≡ commentRecord (recordOn h first rest .length)) × (recordOn h first rest .length ≤ length rest)
+        (recordOn h first rest ≡ commentRecord (recordOn h first rest .extent)) × (recordOn h first rest .extent ≤ length rest)
     comment-by (broken reason) class e j o = let z : _≡_ {A = ℕ} 0 1 = cc in absurd (omega arith)
     comment-by end class e j o = let z : _≡_ {A = ℕ} 0 1 = cc in absurd (omega arith)
     comment-by (comment n) class e j o =
@@ -129,7 +129,7 @@ module _ (v : Version) (tokens : List ℕ) (at next : ℕ) (r : Record) (words :
         let z : _≡_ {A = ℕ} 0 1 = cc in absurd (omega arith)
 
   comment-of : (tail : List ℕ) → drop at tokens ≡ tail → judged v tail ≡ Lawful (f .size) (f .class) → eqb (recordOf v tail .opcode) commentOpcode ≡ true →
-      (recordOf v tail ≡ commentRecord (recordOf v tail .length)) × (suc (recordOf v tail .length) ≤ length tail)
+      (recordOf v tail ≡ commentRecord (recordOf v tail .extent)) × (suc (recordOf v tail .extent) ≤ length tail)
   unfolding judged recordOf
   comment-of [] t j o = let z : _≡_ {A = ℕ} 0 1 = cc in absurd (omega arith)
   comment-of (first ∷ rest) t j o =
@@ -138,11 +138,11 @@ module _ (v : Version) (tokens : List ℕ) (at next : ℕ) (r : Record) (words :
 
   yields-comment : eqb (r .opcode) commentOpcode ≡ true → yieldedComment r ≡ true
   yields-comment o =
-      let it : (recordOf v (drop at tokens) ≡ commentRecord (recordOf v (drop at tokens) .length)) × (suc (recordOf v (drop at tokens) .length) ≤ length (drop at tokens)) =
+      let it : (recordOf v (drop at tokens) ≡ commentRecord (recordOf v (drop at tokens) .extent)) × (suc (recordOf v (drop at tokens) .extent) ≤ length (drop at tokens)) =
       comment-of (drop at tokens) refl (f .good) (rw (f .record-is) o) in
-      let held : r ≡ commentRecord (r .length) = rw (f .record-is) at (it .0) in
-      let long : suc (r .length) ≤ length (drop at tokens) = rw (f .record-is) at (it .1) in
-      rw (le-leb (r .length) longestComment (omega (arith, long, length-drop at tokens, f .few)), ← held) (record-same r)
+      let held : r ≡ commentRecord (r .extent) = rw (f .record-is) at (it .0) in
+      let long : suc (r .extent) ≤ length (drop at tokens) = rw (f .record-is) at (it .1) in
+      rw (le-leb (r .extent) longestComment (omega (arith, long, length-drop at tokens, f .few)), ← held) (record-same r)
 
 -- a comment of any length that a stream holds is yielded
 zeros : ℕ → List ℕ
@@ -167,17 +167,17 @@ comment-words n h (suc k) = zeros-words n k
 
 comment-yielded : (v : Version) (r : Record) → yieldedComment r ≡ true → Yielded v r
 comment-yielded v r h =
-    let short = leb-true (r .length) longestComment (both-left (leb (r .length) longestComment) _ h) in
-    let same = record-equal (commentRecord (r .length)) r (both-right (leb (r .length) longestComment) _ h) in
-    let fits : r .length < 2 ^ 15 = omega arith in
-    let long = zeros-length (r .length) in
-    let good = comment-judged v (r .length) fits (zeros (r .length)) long in
+    let short = leb-true (r .extent) longestComment (both-left (leb (r .extent) longestComment) _ h) in
+    let same = record-equal (commentRecord (r .extent)) r (both-right (leb (r .extent) longestComment) _ h) in
+    let fits : r .extent < 2 ^ 15 = omega arith in
+    let long = zeros-length (r .extent) in
+    let good = comment-judged v (r .extent) fits (zeros (r .extent)) long in
     record {
-      tokens = commentToken (r .length) ∷ zeros (r .length);
+      tokens = commentToken (r .extent) ∷ zeros (r .extent);
       at = 0;
-      next = 0 + r .length + 1;
-      are-words = comment-words (r .length) short;
-      read = reads-own v (commentToken (r .length) ∷ zeros (r .length)) (omega arith) (omega arith) good ∙ ap (got (0 + r .length + 1)) (comment-read v (r .length) fits (zeros (r .length)) ∙ same);
+      next = 0 + r .extent + 1;
+      are-words = comment-words (r .extent) short;
+      read = reads-own v (commentToken (r .extent) ∷ zeros (r .extent)) (omega arith) (omega arith) good ∙ ap (got (0 + r .extent + 1)) (comment-read v (r .extent) fits (zeros (r .extent)) ∙ same);
     }
 
 back-yielded : (v : Version) (r : Record) → readsBack v r ≡ true → Yielded v r
@@ -205,16 +205,16 @@ tokens-are-words v r n h =
 -- the test and the definition
 module _ (v : Version) (r : Record) (body : List ℕ) where
   to-by : (isComment : Bool) → eqb (r .opcode) commentOpcode ≡ isComment →
-      pick isComment (eqb (length body) (r .length) && yieldedComment r) (eqb (length body) 0 && readsBack v r) ≡ true →
-      Yielded v r × (length body ≡ pick isComment (r .length) 0)
+      pick isComment (eqb (length body) (r .extent) && yieldedComment r) (eqb (length body) 0 && readsBack v r) ≡ true →
+      Yielded v r × (length body ≡ pick isComment (r .extent) 0)
   to-by true c h =
-      (comment-yielded v r (both-right (eqb (length body) (r .length)) _ h), eqb-true (length body) (r .length) (both-left (eqb (length body) (r .length)) _ h))
+      (comment-yielded v r (both-right (eqb (length body) (r .extent)) _ h), eqb-true (length body) (r .extent) (both-left (eqb (length body) (r .extent)) _ h))
   to-by false c h = (back-yielded v r (both-right (eqb (length body) 0) _ h), eqb-true (length body) 0 (both-left (eqb (length body) 0) _ h))
 
-  from-by : (isComment : Bool) → eqb (r .opcode) commentOpcode ≡ isComment → Yielded v r → length body ≡ pick isComment (r .length) 0 →
-      pick isComment (eqb (length body) (r .length) && yieldedComment r) (eqb (length body) 0 && readsBack v r) ≡ true
+  from-by : (isComment : Bool) → eqb (r .opcode) commentOpcode ≡ isComment → Yielded v r → length body ≡ pick isComment (r .extent) 0 →
+      pick isComment (eqb (length body) (r .extent) && yieldedComment r) (eqb (length body) 0 && readsBack v r) ≡ true
   from-by true c y e =
-      rw (eq-eqb (length body) (r .length) e) (yields-comment v (y .tokens) (y .at) (y .next) r (y .are-words) (read-from v (y .tokens) (y .at) (y .next) r (y .read)) c)
+      rw (eq-eqb (length body) (r .extent) e) (yields-comment v (y .tokens) (y .at) (y .next) r (y .are-words) (read-from v (y .tokens) (y .at) (y .next) r (y .read)) c)
   from-by false c y e =
       rw (eq-eqb (length body) 0 e) (yields-back v (y .tokens) (y .at) (y .next) r (y .are-words) (read-from v (y .tokens) (y .at) (y .next) r (y .read)) c)
 

@@ -29,7 +29,7 @@ abbrev pub longestComment : ℕ
 longestComment = 16383
 
 abbrev pub yieldedComment : Record → Bool
-yieldedComment r = leb (r .length) longestComment && sameRecord (commentRecord (r .length)) r
+yieldedComment r = leb (r .extent) longestComment && sameRecord (commentRecord (r .extent)) r
 
 -- any other record is yielded if its own tokens yield it
 abbrev pub isGot : Answer → Bool
@@ -45,7 +45,7 @@ readsBack v r = gives (reading (versionToken v) (wordsOf (tokensOf v r [])) 0) r
 -- the test of a record and of the length of a body
 unfoldable pub writable : Version → Record → ℕ → Bool
 writable v r n =
-    pick (eqb (r .opcode) commentOpcode) (eqb n (r .length) && yieldedComment r) (eqb n 0 && readsBack v r)
+    pick (eqb (r .opcode) commentOpcode) (eqb n (r .extent) && yieldedComment r) (eqb n 0 && readsBack v r)
 
 -- the answer: a place past the buffer's end leaves no room either
 abbrev pub room : List ℕ → List ℕ → ℕ → Written

@@ -30,7 +30,7 @@ sameFields a b =
     eqb (a .opcode) (b .opcode)
     && (eqb (a .controls) (b .controls)
     && (eqb (a .predicated) (b .predicated)
-    && eqb (a .length) (b .length)))
+    && eqb (a .extent) (b .extent)))
 
 unfoldable pub sameRecord : Record → Record → Bool
 sameRecord a b = sameFields a b && sameOperands (a .operands) (b .operands)

@@ -30,7 +30,7 @@ pub record Yielded (v : Version) (r : Record) : Type 0 where
 
 -- how long the body must be that the writer is lent: "0 for any other record"
 abbrev pub bodyLength : Record → ℕ
-bodyLength r = pick (eqb (r .opcode) commentOpcode) (r .length) 0
+bodyLength r = pick (eqb (r .opcode) commentOpcode) (r .extent) 0
 
 -- the record can be written with this body: reading yields it, and the body's length agrees
 pub record Writable (v : Version) (r : Record) (body : List ℕ) : Type 0 where

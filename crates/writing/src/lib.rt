@@ -68,7 +68,7 @@ fn same_fields(a: Record, b: Record) -> bool
     ensures { λ r. ⌜ r ≡ sameFields a b ⌝ }
 {
     (a.opcode == b.opcode)
-        & ((a.controls == b.controls) & ((a.predicated == b.predicated) & (a.length == b.length)))
+        & ((a.controls == b.controls) & ((a.predicated == b.predicated) & (a.extent == b.extent)))
 }
 
 fn same_record(a: Record, b: Record) -> bool
@@ -254,7 +254,7 @@ fn read_back(version: u32, known: Version, instruction: Record) -> Encoded
 fn is_comment(instruction: Record) -> bool
     ensures { λ r. ⌜ r ≡ yieldedComment instruction ⌝ }
 {
-    if LONGEST_COMMENT < instruction.length {
+    if LONGEST_COMMENT < instruction.extent {
         return false;
     }
     let none = records::no_record();
@@ -263,7 +263,7 @@ fn is_comment(instruction: Record) -> bool
         opcode: COMMENT,
         controls: 0,
         predicated: 0,
-        length: instruction.length,
+        extent: instruction.extent,
         operands,
     };
     same_record(own, instruction)
@@ -289,13 +289,13 @@ fn put_comment(room: &mut [u32], size: u32, body: &[u32])
     copy_body(&mut room[1..], body);
 }
 
-fn fits(count: usize, at: usize, length: usize) -> bool
-    ensures { λ r. ⌜ r ≡ leb (at + count) length ⌝ }
+fn fits(count: usize, at: usize, room: usize) -> bool
+    ensures { λ r. ⌜ r ≡ leb (at + count) room ⌝ }
 {
-    if length < at {
+    if room < at {
         return false;
     }
-    count <= length - at
+    count <= room - at
 }
 
 fn refused(reason: Reason) -> Written
@@ -317,7 +317,7 @@ fn write_comment(
     requires { ⌜ instruction .opcode ≡ commentOpcode ⌝ }
     ensures { λ r. ⌜ (r ≡ writingIn version instruction (now (body .entry)) (now (buffer .entry)) at) × (now (buffer .exit) ≡ contentIn version instruction (now (body .entry)) (now (buffer .entry)) at) ⌝ }
 {
-    let size = instruction.length;
+    let size = instruction.extent;
     if body.len() != size as usize {
         return refused(Reason::Record);
     }

@@ -16,7 +16,7 @@ returns c = there-less _ _ _ (c .if1 .taken)
 returns-2 : tie.Need-returns-2
 returns-2 c =
     let g = c .before .args in
-    sym (le-leb (g .length) (g .shown + g .beyond) (omega (arith, c .if1 .left)))
+    sym (le-leb (g .claimed) (g .shown + g .beyond) (omega (arith, c .if1 .left)))
 
 pub are-there-spec : {M : Type 1} → statement M
 are-there-spec = tie.close (tie.spec sub-result returns returns-2)
