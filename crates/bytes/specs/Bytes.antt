@@ -31,6 +31,6 @@ tokenIn bytes at = littleEndian (getD bytes (4 * at) 0) (getD bytes (4 * at + 1)
 unfoldable pub bytesVerdict : List ℕ → Verdict
 bytesVerdict bytes = pick (eqb (length bytes % 4) 0) (verdict (tokensIn bytes)) (Refused (refusal LENGTH 0))
 
--- behind the END that finishes a stream: "TAIL: tokens after END"
+-- behind the END that finishes a stream: "tokens after END" are TAIL
 abbrev pub verdictAtEnd : State → ℕ → Verdict
 verdictAtEnd state tokens = pick (ltb (state .at) tokens) (Refused (refusal TAIL (state .at))) (Accepted (state .count))

@@ -1,4 +1,4 @@
-// The check of a byte range: document 01, "it hands the check a byte range, tokens little-endian".
+// The check of a byte range: document 01, "What the build does".
 ghost use mathlib.Core.Path.{_≡_};
 ghost use Prim.Native.Nat.{_+_, _*_, _<_, _≤_};
 ghost use lib.ListN.{length, take, drop};
@@ -15,7 +15,7 @@ use paper::Version;
 use walk::State;
 use walk::Stepped;
 
-// "Fewer than 2 or more than 16,384 tokens" are refused.
+// LENGTH: "fewer than 2 or more than 16,384 tokens".
 const MOST_TOKENS: usize = 16384;
 
 // So many tokens are read at once.
@@ -170,7 +170,7 @@ fn walk_bytes(version: Version, bytes: &[u8], tokens: usize) -> Verdict
     refused(Reason::RunOut, tokens)
 }
 
-// "It hands the check a byte range, tokens little-endian."
+// The loader "hands the check a byte range, tokens little-endian".
 pub fn check_bytes(bytes: &[u8]) -> Verdict
     ensures { λ r. ⌜ told r ≡ told (bytesVerdict (now (bytes .entry))) ⌝ }
 {

@@ -95,7 +95,7 @@ module _ (size : ℕ) (class : Class) where
   unfolding judged
   good-claim v first rest e = head-good v (classOf (opcodeOf first)) (tokenHead v first) rest e
 
-  -- "a good instruction takes at least one token and only tokens that are there": it takes suc size
+  -- a good instruction takes at least one token and only tokens that are there: it takes suc size
   pub good-within : (v : Version) (tokens : List ℕ) → judged v tokens ≡ Good size class → suc size ≤ length tokens
   unfolding judged
   good-within v [] e = apart (cc)

@@ -33,9 +33,9 @@ use Rattle.checking.proofs.AcceptedIsGrammar.{accepted-is-grammar}
 use Rattle.edit.specs.Boundaries.{standingAt, isBoundary}
 use Rattle.edit.proofs.Standing.{Comes, stays, passes, ahead, standing-comes, reached-standing}
 use Rattle.edit.proofs.SameBlocks.{boundary}
-use Rattle.demands.specs.Reading.{placesRead, boundariesOf, Boundary}
+use Rattle.demands.specs.Reading.{placesRead, boundariesOf, ReadPlace}
 use Rattle.demands.specs.Demand2.{ReadAsCut}
-use Rattle.demands.proofs.ChunksRead.{judged-here, inside, behind}
+use Rattle.listing.proofs.ChunkRead.{judged-here, inside, behind}
 use Rattle.demands.proofs.Demand2.{demand-2}
 
 -- a place among others
@@ -143,25 +143,25 @@ module _ (stream : List ℕ) (n : ℕ) (v : Version) (accept : verdict stream �
       let is : Lawful (cutFrom (g .version) stream 1) = (g .endsAt, g .upTo, g .body) in
       rw (one-version (getD stream 0 0) (g .version) v (g .names) name) at is
 
-  read : ReadAsCut stream n (lawful .version) (lawful .chunks) (demand-2 .isCutReadWritten stream n lawful .all)
+  read : ReadAsCut stream n (lawful .version) (lawful .chunks) (demand-2 .isCutReadWritten stream n lawful .given)
   read = demand-2 .isCutReadWritten stream n lawful .isRead
 
-  -- an instruction boundary is a boundary of the edit, and the other way round
+  -- a place of the reading is a boundary of the edit, and the other way round
   pub boundary-is : (p : ℕ) →
-      (Boundary stream p → isBoundary (standingAt v stream p) ≡ true) × (isBoundary (standingAt v stream p) ≡ true → Boundary stream p)
+      (ReadPlace stream p → isBoundary (standingAt v stream p) ≡ true) × (isBoundary (standingAt v stream p) ≡ true → ReadPlace stream p)
   boundary-is p = (stands-at, boundary-at)
     where
-      stands-at : Boundary stream p → isBoundary (standingAt v stream p) ≡ true
+      stands-at : ReadPlace stream p → isBoundary (standingAt v stream p) ≡ true
       stands-at b =
-          let places : placesRead (b .all) ≡ boundariesOf (lawful .chunks) 1 = ap placesRead (read .oneReading (b .all) (b .isRead)) ∙ read .areBoundaries in
+          let places : placesRead (b .given) ≡ boundariesOf (lawful .chunks) 1 = ap placesRead (read .oneReading (b .given) (b .isRead)) ∙ read .areBoundaries in
           among-stands v stream derived p (cut .0) 1 (sym (cut .1)) [] here (eqb p 1) refl (rw places at (b .isPlace))
 
-      boundary-at : isBoundary (standingAt v stream p) ≡ true → Boundary stream p
+      boundary-at : isBoundary (standingAt v stream p) ≡ true → ReadPlace stream p
       boundary-at e =
           let s = boundary (standingAt v stream p) e in
           let c = standing-comes v stream p (s .0) (s .1) in
           record {
-            all = demand-2 .isCutReadWritten stream n lawful .all;
+            given = demand-2 .isCutReadWritten stream n lawful .given;
             isRead = read .isRead;
             isPlace = rw (read .areBoundaries) (comes-among (cut .0) stream 1 (sym (cut .1)) p (c .1) (c .0));
           }

@@ -31,10 +31,11 @@ use Rattle.records.proofs.Laws.{end-record}
 use Rattle.reader.specs.Reading.{got, reading}
 use Rattle.reader.proofs.Laws.{reading-own}
 use Rattle.listing.specs.Listing.{recordsOf}
+use Rattle.listing.proofs.ChunkRead.{behind, read-here}
 use Rattle.writer.specs.Tokens.{bodyOn, commentBody}
 use Rattle.writing.specs.Writing.{bodyLength}
 use Rattle.writing.specs.InOrder.{Piece, piecesOf}
-use Rattle.writing.proofs.Readings.{known}
+use Rattle.paper.proofs.VersionTokens.{named-back}
 use Rattle.demands.specs.Reading.{Given, givenAt, ReadUp, ends, goes, placesRead, recordsIn, piecesIn, lastPlace, boundariesOf}
 
 -- a lawful chunk's record is END's exactly if the chunk is END
@@ -90,26 +91,6 @@ givenOf v (chunk ∷ chunks) at = givenFrom v chunk at ∷ givenOf v chunks (at 
 -- a chunk in a stream
 module _ (v : Version) (first : ℕ) (rest other : List ℕ) {class : Class} (alone : Alone v first rest class)
     (s : List ℕ) (at : ℕ) (here : drop at s ≡ (first ∷ rest) ++ other) where
-  own : take (suc (length rest)) (first ∷ rest) ≡ first ∷ rest
-  own = take-length (first ∷ rest)
-
-  pub judged-here : judged v (drop at s) ≡ Good (length rest) class
-  judged-here = rw here (ap (λ (c : List ℕ). judged v (c ++ other)) (sym own) ∙ good-alone (length rest) class v (first ∷ rest) other alone)
-
-  pub inside : at < length s
-  inside = omega (arith, length-drop at s, ap length here)
-
-  pub behind : drop (at + suc (length rest)) s ≡ other
-  behind = rw (← drop-drop (suc (length rest)) at s, here) (drop-at (first ∷ rest) other (suc (length rest)) refl)
-
-  read-here : length s ≤ mostTokens → reading (versionToken v) s at ≡ got (at + suc (length rest)) (recordOf v (first ∷ rest))
-  unfolding reading
-  read-here few =
-      let front : take (suc (length rest)) (drop at s) ≡ first ∷ rest = rw here (take-at (first ∷ rest) other (suc (length rest)) refl) in
-      let place : at + length rest + 1 ≡ at + suc (length rest) = omega arith in
-      rw (le-leb (length s) mostTokens few, known v, ← place)
-      (reading-own v s at (length rest) class inside judged-here ∙ ap (λ (c : List ℕ). got (at + length rest + 1) (recordOf v c)) front)
-
   given-here : givenAt s at (recordOf v (first ∷ rest)) ≡ givenFrom v (first ∷ rest) at
   given-here =
       let place : at + 1 ≡ suc at = omega arith in

@@ -15,7 +15,7 @@ use Rattle.cutting.proofs.OneCutting.{one-cutting}
 use Rattle.cutting.proofs.SizesCut.{sizes-cut}
 use Rattle.cutting.proofs.OperandsCut.{operands-cut}
 use Rattle.listing.specs.Listing.{counted}
-use Rattle.listing.proofs.RecordsAreTheCutting.{records-counted}
+use Rattle.listing.proofs.RecordsCounted.{records-counted}
 use Rattle.writer.specs.Tokens.{Words}
 use Rattle.writer.proofs.Operands.{words-drop}
 use Rattle.writing.proofs.Answers.{version-named}
@@ -47,11 +47,11 @@ module _ (stream : List ℕ) (n : ℕ) (lawful : LawfulStream stream n) where
         byOperandsAlone = operands-cut (lawful .version) (drop 1 stream) (lawful .chunks) (lawful .classes) (lawful .isCutting);
       }
 
-  all : List Given
-  all = givenOf (lawful .version) (lawful .chunks) 1
+  given : List Given
+  given = givenOf (lawful .version) (lawful .chunks) 1
 
-  read : ReadAsCut stream n (lawful .version) (lawful .chunks) all
-  unfolding all
+  read : ReadAsCut stream n (lawful .version) (lawful .chunks) given
+  unfolding given
   read =
       let up = rw (← named-by) at (chunks-read (lawful .isCutting .0) stream 1 (sym behind) few) in
       let records = records-read (lawful .version) (lawful .chunks) 1 in
@@ -64,8 +64,8 @@ module _ (stream : List ℕ) (n : ℕ) (lawful : LawfulStream stream n) where
         isCount = ap counted records ∙ records-counted (lawful .isCutting .0) ∙ lawful .isCount;
       }
 
-  written : Words stream → (buffer : List ℕ) (at : ℕ) → at + length (drop 1 stream) ≤ length buffer → WrittenBack stream all buffer at
-  unfolding all
+  written : Words stream → (buffer : List ℕ) (at : ℕ) → at + length (drop 1 stream) ≤ length buffer → WrittenBack stream given buffer at
+  unfolding given
   written words buffer at room =
       let short : length (drop 1 stream) ≤ mostTokens = omega (arith, few, length-drop 1 stream) in
       let back = chunks-written-back (lawful .isCutting .0) (rw behind (words-drop 1 stream words)) (rw behind short) buffer at (rw behind room) in
@@ -79,7 +79,7 @@ demand-2 =
       isAccepted = a-cutting-is-accepted;
       isCutReadWritten = λ stream n lawful. record {
         isCut = cut stream n lawful;
-        all = all stream n lawful;
+        given = given stream n lawful;
         isRead = read stream n lawful;
         isWrittenBack = written stream n lawful;
       };

@@ -13,6 +13,7 @@ use Rattle.paper.specs.Stream.{mostTokens, verdict}
 use Rattle.paper.specs.declared.Named.the-variants.{Known}
 use Rattle.paper.specs.declared.Refusal.{Refusal}
 use Rattle.paper.specs.declared.Verdict.the-variants.{Accepted as yes-verdict, Refused as no-verdict}
+use Rattle.cutting.proofs.AcceptedIsACutting.{accepted-is-a-cutting}
 use Rattle.checking.proofs.Whole.{verdict-walked}
 use Rattle.edit.specs.declared.Edited.the-variants.{Joined, Accepted}
 use Rattle.edit.specs.Boundaries.{standingAt, isBoundary}
@@ -23,7 +24,9 @@ use Rattle.edit.proofs.EditIsACheck.{answered, edit-is-a-check}
 use Rattle.edit.proofs.JoinedIsTheOldVerdict.{refused-behind, carried-by, joined-refused}
 use Rattle.edit.proofs.JoinedByPrefix.{joined-by-prefix}
 use Rattle.edit.proofs.BufferHoldsTheSplice.{Holds as HoldsTokens, joined-length, accepted-length, holds-joined, holds-accepted, refused-keeps}
-use Rattle.demands.specs.Demand3.{Replaces, editedStream, Holds, Moved, Demand3}
+use Rattle.demands.specs.Reading.{ReadPlace}
+use Rattle.demands.specs.Demand3.{Boundary, Replaces, editedStream, Holds, Moved, Demand3}
+use Rattle.demands.proofs.Boundaries.{boundary-is}
 
 -- a replacement is allowed: what the edit tests before it walks the splice
 module _ (buffer : List ℕ) (n i j : ℕ) (run : List ℕ) (h : Replaces buffer n i j run) where
@@ -104,8 +107,19 @@ module _ (buffer : List ℕ) (n i j : ℕ) (run : List ℕ) (given : ℕ) where
         isMoved = carried-by i j (length run) (r .position) (p .order) behind;
       }
 
+module _ (stream : List ℕ) (count p : ℕ) (accept : verdict stream ≡ yes-verdict count) where
+  read-at : Boundary stream p → ReadPlace stream p
+  read-at b = boundary-is stream count (b .version) accept (b .isNamed) p .1 (b .isReached)
+
+  bounds-at : ReadPlace stream p → Boundary stream p
+  bounds-at r =
+      let l = accepted-is-a-cutting stream count accept in
+      record { version = l .version; isNamed = l .isNamed; isReached = boundary-is stream count (l .version) accept (l .isNamed) p .0 r }
+
 pub demand-3 : Demand3
 demand-3 = record {
+  boundary-is-read = read-at;
+  read-is-boundary = bounds-at;
   edit-is-a-check = λ buffer n i j run count accepted h. is-check buffer n i j run h count accepted;
   yes-holds = λ buffer n i j run given. ⊎-elim (after-joined buffer n i j run given) (after-accepted buffer n i j run given);
   no-keeps = refused-keeps;

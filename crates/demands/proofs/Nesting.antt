@@ -29,7 +29,7 @@ use Rattle.walk.proofs.OpenBlocks.{step-few}
 use Rattle.cutting.proofs.OwnTokens.{apart}
 use Rattle.checking.proofs.Whole.{verdict-walked}
 use Rattle.edit.proofs.Standing.{Comes, stays, passes}
-use Rattle.demands.specs.Nesting.{Row, none, next, opens, BreaksAt, blocksOpened, blocksClosed, Nesting}
+use Rattle.demands.specs.Nesting.{GoodRow, standing, next, opens, BreaksAt, blocksOpened, blocksClosed, Nesting}
 use Rattle.demands.proofs.BlocksCounted.{step-count, deep-enough}
 use Rattle.demands.proofs.InstructionReasons.{instruction-reason}
 use Rattle.demands.proofs.WhereRefused.{good-inside, Refusing, runs-out, unlawful, breaks, trails, StreamRefused, for-length, for-version, in-walk, stream-refused, nesting-refused}
@@ -42,21 +42,21 @@ cut-good v s p size class j =
     cut-at v s p inside ∙ rw j
 
 -- a row of instructions leads the cut
-row-leads : {v : Version} {s : List ℕ} {p q : ℕ} {cs : List Class} → Row v s p cs q → Leads cs (cutFrom v s p) (cutFrom v s q)
-row-leads none = nothing
+row-leads : {v : Version} {s : List ℕ} {p q : ℕ} {cs : List Class} → GoodRow v s p cs q → Leads cs (cutFrom v s p) (cutFrom v s q)
+row-leads standing = nothing
 row-leads {v} {s} (next {p = p} {size = size} {class = class} j r) = rw (cut-good v s p size class j) (first (row-leads r))
 
 -- what a walk passes is a row, which leaves open the blocks that the walk has open
 pub record Passed (v : Version) (s : List ℕ) (p : ℕ) (ks : List Kind) (q : ℕ) (ls : List Kind) : Type 0 where
   pub classes : List Class
-  pub row : Row v s p classes q
+  pub row : GoodRow v s p classes q
   pub leaves : openAfter ks classes ≡ go ls
   pub counted : length ls + blocksClosed classes ≡ length ks + blocksOpened classes
   pub few : length ks ≤ mostOpen → length ls ≤ mostOpen
 
 comes-row : {v : Version} {s : List ℕ} {p q : ℕ} {ks ls : List Kind} → Comes v s p ks q ls → Passed v s p ks q ls
 unfolding openAfter
-comes-row stays = record { classes = []; row = none; leaves = refl; counted = refl; few = λ h. h }
+comes-row stays = record { classes = []; row = standing; leaves = refl; counted = refl; few = λ h. h }
 comes-row (passes {class = class} {ks = ks} {ls = ls} {ms = ms} j e h c) =
     let r = comes-row c in
     record {

@@ -18,8 +18,8 @@ same-record : {a b : ℕ} {i j : Record} {x : Reading} → x ≡ got a i → x �
 same-record e f = ap (λ (y : Reading). y .instruction) (sym e ∙ f)
 
 -- so the reader goes one way
-pub one-reading : {version : ℕ} {stream : List ℕ} {at : ℕ} {all others : List Given} →
-    ReadUp version stream at all → ReadUp version stream at others → others ≡ all
+pub one-reading : {version : ℕ} {stream : List ℕ} {at : ℕ} {given others : List Given} →
+    ReadUp version stream at given → ReadUp version stream at others → others ≡ given
 one-reading (ends e) (ends f) = refl
 one-reading (ends e) (goes f other later) = absurd (other (same-record f e))
 one-reading (goes e other later) (ends f) = absurd (other (same-record e f))

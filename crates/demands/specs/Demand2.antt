@@ -26,7 +26,7 @@ use Rattle.writing.specs.Writing.{toldWriting, Writes}
 use Rattle.writing.specs.InOrder.{WritesAll}
 use Rattle.demands.specs.Reading.{Given, ReadUp, placesRead, recordsIn, piecesIn, lastPlace, boundariesOf}
 
--- "There is then one way to cut it."
+-- "There is then one way to cut it"
 -- A check that jumps by the stated size without reading operands is ruled out: the operands alone give other chunks where a size is wrong.
 -- A check that reads the operands and ignores the stated size is ruled out: the sizes alone give other chunks there.
 pub record CutOneWay (version : Version) (tokens : List ℕ) (chunks : List (List ℕ)) (classes : List Class) : Type 0 where
@@ -40,36 +40,36 @@ pub record CutOneWay (version : Version) (tokens : List ℕ) (chunks : List (Lis
 -- "its records are that cutting"
 -- A reader with one fixed record is ruled out: it never comes to END's record, or comes to it at once.
 -- A check whose count takes in the comments is ruled out: its number is not that of the records.
-pub record ReadAsCut (stream : List ℕ) (n : ℕ) (version : Version) (chunks : List (List ℕ)) (all : List Given) : Type 0 where
+pub record ReadAsCut (stream : List ℕ) (n : ℕ) (version : Version) (chunks : List (List ℕ)) (given : List Given) : Type 0 where
   -- the reader, started behind the version and asked again at each next place that it gives, gives all these and comes to END's record
-  pub isRead : ReadUp (getD stream 0 0) stream 1 all
+  pub isRead : ReadUp (getD stream 0 0) stream 1 given
   -- and it comes there in no other way, and nowhere else
-  pub oneReading : (others : List Given) → ReadUp (getD stream 0 0) stream 1 others → others ≡ all
+  pub oneReading : (others : List Given) → ReadUp (getD stream 0 0) stream 1 others → others ≡ given
   -- END's record is the last token's, so that no token is left unread
-  pub isWhole : suc (lastPlace all) ≡ length stream
+  pub isWhole : suc (lastPlace given) ≡ length stream
   -- the places at which the reader stood are the boundaries of the cutting
-  pub areBoundaries : placesRead all ≡ boundariesOf chunks 1
+  pub areBoundaries : placesRead given ≡ boundariesOf chunks 1
   -- what it gave there are the records of the chunks
-  pub areRecords : recordsIn all ≡ recordsOf version chunks
+  pub areRecords : recordsIn given ≡ recordsOf version chunks
   -- and n of them are neither a comment's nor END's
-  pub isCount : counted (recordsIn all) ≡ n
+  pub isCount : counted (recordsIn given) ≡ n
 
 -- "writing the records, with each comment's body lent back, gives every token after the version again"
 -- A writer that answers and writes nothing is ruled out: the buffer holds the stream's tokens afterwards.
 -- A writer that clears what lies behind its tokens is ruled out: but for those tokens the buffer is as it was.
-pub record WrittenBack (stream : List ℕ) (all : List Given) (buffer : List ℕ) (at : ℕ) : Type 0 where
+pub record WrittenBack (stream : List ℕ) (given : List Given) (buffer : List ℕ) (at : ℕ) : Type 0 where
   -- the writer says yes to each in order, and leaves the tokens after the version at the place and all else as it was
-  pub isWritten : WritesAll (getD stream 0 0) (piecesIn all) buffer at (pasted buffer at (drop 1 stream)) (at + length (drop 1 stream))
+  pub isWritten : WritesAll (getD stream 0 0) (piecesIn given) buffer at (pasted buffer at (drop 1 stream)) (at + length (drop 1 stream))
   -- and there is no other outcome
-  pub oneWriting : (after : List ℕ) (behind : ℕ) → WritesAll (getD stream 0 0) (piecesIn all) buffer at after behind →
+  pub oneWriting : (after : List ℕ) (behind : ℕ) → WritesAll (getD stream 0 0) (piecesIn given) buffer at after behind →
       (after ≡ pasted buffer at (drop 1 stream)) × (behind ≡ at + length (drop 1 stream))
 
 -- a lawful stream: cut; read; and those very records written, at any place of any buffer that has room for them
 pub record CutReadWritten (stream : List ℕ) (n : ℕ) (lawful : LawfulStream stream n) : Type 0 where
   pub isCut : CutOneWay (lawful .version) (drop 1 stream) (lawful .chunks) (lawful .classes)
-  pub all : List Given
-  pub isRead : ReadAsCut stream n (lawful .version) (lawful .chunks) all
-  pub isWrittenBack : Words stream → (buffer : List ℕ) (at : ℕ) → at + length (drop 1 stream) ≤ length buffer → WrittenBack stream all buffer at
+  pub given : List Given
+  pub isRead : ReadAsCut stream n (lawful .version) (lawful .chunks) given
+  pub isWrittenBack : Words stream → (buffer : List ℕ) (at : ℕ) → at + length (drop 1 stream) ≤ length buffer → WrittenBack stream given buffer at
 
 pub record Demand2 : Type 0 where
   -- "A stream is accepted exactly if it is laid out as Microsoft's token pages and document 01 say, with the blocks nested": accepted with the

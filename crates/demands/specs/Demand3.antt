@@ -22,6 +22,7 @@ use Rattle.edit.specs.declared.Edited.the-variants.{Joined, Accepted, Refused}
 use Rattle.edit.specs.Boundaries.{standingAt, isBoundary}
 use Rattle.edit.specs.Edit.{splice, newLength, meetsAtEnd, onVerdict, editedIn, bufferAfter}
 use Rattle.edit.specs.Refusals.{editRefusal, checkRefusal}
+use Rattle.demands.specs.Reading.{ReadPlace}
 
 -- an instruction boundary of a stream, in the version that its first token names: "Boundaries are the instruction positions from 1 up to
 -- and including END that a walk of the old stream reaches, a refused instruction's own included; the token count is none."
@@ -61,6 +62,10 @@ pub record Moved (stream : List ℕ) (i j m : ℕ) (r : Refusal) : Type 0 where
   pub isMoved : position + (j - i) ≡ r .position + m
 
 pub record Demand3 : Type 0 where
+  -- "two instruction boundaries": of an accepted stream they are the places at which the reader of demand 2 gives its records, END's among them.
+  -- This rules out an edit that takes places only before instructions that are counted, and one that takes the place behind END.
+  pub boundary-is-read : (stream : List ℕ) (count p : ℕ) → verdict stream ≡ yes-verdict count → Boundary stream p → ReadPlace stream p
+  pub read-is-boundary : (stream : List ℕ) (count p : ℕ) → verdict stream ≡ yes-verdict count → ReadPlace stream p → Boundary stream p
   -- The demand. Of an accepted stream the edit and a check of the edited stream have the same refusal, in number and position, or both say
   -- yes and have none. This rules out an edit that judges the run alone, which lets a lonely ENDIF in, and one that says JOINED on equal depth, which
   -- takes an IF for a REP.

@@ -26,10 +26,10 @@ use Rattle.blocks.specs.Begins.{Begins, ended}
 
 -- instructions one behind the other, from position p up to position q: each is good by itself, nothing from OPCODE to SIZE refuses it, and
 -- these are their classes
-pub data Row (v : Version) (s : List ℕ) : ℕ → List Class → ℕ → Type 0 where
-  none : {p : ℕ} → Row v s p [] p
+pub data GoodRow (v : Version) (s : List ℕ) : ℕ → List Class → ℕ → Type 0 where
+  standing : {p : ℕ} → GoodRow v s p [] p
   next : {p q size : ℕ} {class : Class} {classes : List Class} →
-      judged v (drop p s) ≡ Good size class → Row v s (p + suc size) classes q → Row v s p (class ∷ classes) q
+      judged v (drop p s) ≡ Good size class → GoodRow v s (p + suc size) classes q → GoodRow v s p (class ∷ classes) q
 
 -- an instruction that opens a block
 abbrev pub opens : Class → Bool
@@ -45,7 +45,7 @@ pub record BreaksAt (s : List ℕ) (p : ℕ) (opener : Bool) : Type 0 where
   pub version : Version
   pub isNamed : named (getD s 0 0) ≡ Known version
   pub before : List Class
-  pub areGood : Row version s 1 before p
+  pub areGood : GoodRow version s 1 before p
   pub haveNoEnd : ended before ≡ false
   pub begin : Begins before
   pub size : ℕ

@@ -22,7 +22,7 @@ pub record Given : Type 0 where
 abbrev pub givenAt : List ℕ → ℕ → Record → Given
 givenAt stream at r = record { place = at; instruction = r; body = take (bodyLength r) (drop (suc at) stream) }
 
--- `ReadUp version stream at all`: from the place on the reader gives these, one after another, and the last is END's and no other one is
+-- `ReadUp version stream at given`: from the place on the reader gives these, one after another, and the last is END's and no other one is
 pub data ReadUp (version : ℕ) (stream : List ℕ) : ℕ → List Given → Type 0 where
   ends : {at next : ℕ} → reading version stream at ≡ got next endRecord → ReadUp version stream at (givenAt stream at endRecord ∷ [])
   goes : {at next : ℕ} {r : Record} {later : List Given} → reading version stream at ≡ got next r → (r ≡ endRecord → ⊥) →
@@ -51,9 +51,9 @@ abbrev pub boundariesOf : List (List ℕ) → ℕ → List ℕ
 boundariesOf [] p = []
 boundariesOf (chunk ∷ chunks) p = p ∷ boundariesOf chunks (p + length chunk)
 
--- an instruction boundary: the reader, from behind the version on, comes up to END, and gives one of its records at this place. Of an accepted
--- stream these are the boundaries that the edit takes for its places: `proofs/Boundaries.antt`, `boundary-is`.
-pub record Boundary (stream : List ℕ) (p : ℕ) : Type 0 where
-  pub all : List Given
-  pub isRead : ReadUp (getD stream 0 0) stream 1 all
-  pub isPlace : among p (placesRead all) ≡ true
+-- a place at which the reader, started behind the version, gives one of the records on its way up to END. Of an accepted stream these are the
+-- instruction boundaries: demand 3 says so.
+pub record ReadPlace (stream : List ℕ) (p : ℕ) : Type 0 where
+  pub given : List Given
+  pub isRead : ReadUp (getD stream 0 0) stream 1 given
+  pub isPlace : among p (placesRead given) ≡ true

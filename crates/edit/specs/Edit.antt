@@ -30,7 +30,7 @@ newLength n i j m = n - (j - i) + m
 abbrev pub placed : Version → List ℕ → ℕ → ℕ → Bool
 placed v old i j = isBoundary (standingAt v old i) && (isBoundary (standingAt v old j) && leb i j)
 
--- "ROOM (new length against buffer and 16,384)"
+-- "ROOM (new length n - (j - i) + m against buffer and 16,384)"
 abbrev pub fits : ℕ → ℕ → Bool
 fits room tokens = leb tokens room && leb tokens mostTokens
 
@@ -55,7 +55,7 @@ abbrev pub editNamed : Named → (Version → Edited) → Edited
 editNamed (Known v) next = next v
 editNamed Unknown next = editRefused VERSION
 
--- "Order: LENGTH, VERSION, PLACE, ROOM": the edit of a stream in a room of so many tokens
+-- "Order: LENGTH, VERSION, PLACE .., ROOM ..": the edit of a stream in a room of so many tokens
 unfoldable pub edited : ℕ → List ℕ → ℕ → ℕ → List ℕ → Edited
 edited room old i j run =
     pick (lengthLaid (length old))
@@ -88,6 +88,6 @@ toldEdit (Joined n) = record { number = 0; position = 0; joined = 1; tokens = n 
 toldEdit (Accepted n) = record { number = 0; position = 0; joined = 0; tokens = n }
 toldEdit (Refused r) = record { number = numberOf (r .reason); position = r .position; joined = 0; tokens = 0 }
 
--- "One function says where a position of the old stream goes": before i it stays, from j on it moves
+-- where a position of the old stream goes: before i it stays, from j on it moves
 abbrev pub carried : ℕ → ℕ → ℕ → ℕ → ℕ
 carried i j m p = pick (leb j p) (i + m + (p - j)) p

@@ -1,4 +1,4 @@
--- Document 01, "The edit", "Order: LENGTH, VERSION, PLACE, ROOM": what the definition says from each of them on.
+-- Document 01, "The edit", "Order: LENGTH, VERSION, PLACE .., ROOM ..": what the definition says from each of them on.
 use Prim.Native.Nat.{ℕ}
 use mathlib.Core.List.{List}
 use lib.Dec.{ltb}
@@ -12,7 +12,7 @@ use Rattle.edit.specs.declared.Edited.the-variants.{Accepted, Refused}
 use Rattle.edit.specs.Edit.{newLength, placed, fits, spliced, editRefused}
 use Rattle.walk.specs.declared.State.{State}
 
--- behind the END that finishes a splice: "TAIL: tokens after END"
+-- behind the END that finishes a splice: "tokens after END" are TAIL
 abbrev pub editAtEnd : State → ℕ → Edited
 editAtEnd state tokens = pick (ltb (state .at) tokens) (Refused (refusal TAIL (state .at))) (Accepted tokens)
 

@@ -18,7 +18,7 @@ use paper::Version;
 use walk::State;
 use walk::Stepped;
 
-// "Fewer than 2 or more than 16,384 tokens" are refused.
+// LENGTH: "fewer than 2 or more than 16,384 tokens".
 const MOST_TOKENS: usize = 16384;
 
 // "Bits 27:24 are the size": an instruction is judged by no more than its first token and fifteen behind it.
@@ -239,7 +239,7 @@ fn edit_known(version: Version, old: &[u32], room: usize, i: usize, j: usize, ru
     }
 }
 
-// "Order: LENGTH, VERSION, PLACE, ROOM": the edit of a stream, in a buffer with so much room.
+// "Order: LENGTH, VERSION, PLACE .., ROOM ..": the edit of a stream, in a buffer with so much room.
 fn edit_stream(old: &[u32], room: usize, i: usize, j: usize, run: &[u32]) -> Edited
     ensures { λ r. ⌜ r ≡ edited room (now (old .entry)) i j (now (run .entry)) ⌝ }
 {

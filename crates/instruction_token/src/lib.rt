@@ -1,4 +1,4 @@
-// An instruction's first token, by itself: document 01, "The instruction token".
+// An instruction's first token, by itself: document 01, "Instruction token".
 ghost use mathlib.Core.Path.{_≡_};
 ghost use lib.Dec.{eqb};
 ghost use Rattle.paper.specs.Notation.{pick};

@@ -1,1 +1,3 @@
-pub mod RecordsAreTheCutting
+-- The theorems about the records of a cutting.
+pub mod ChunkRead
+pub mod RecordsCounted

@@ -1,2 +1,2 @@
--- A stream read from boundary to boundary.
+-- The records of a cutting.
 pub mod Listing

@@ -1,4 +1,4 @@
--- The records that the reader gives, each from where the one before it ended.
+-- The records of a cutting, and how many of them count.
 use Prim.Native.Nat.{ℕ, zero, suc}
 use mathlib.Core.Bool.{Bool, _||_}
 use mathlib.Core.List.{List, [], _∷_}
@@ -11,16 +11,6 @@ use Rattle.records.specs.Record.{recordOf}
 use Rattle.reader.specs.declared.Answer.{Answer}
 use Rattle.reader.specs.declared.Answer.the-variants.{Got, Refused}
 use Rattle.reader.specs.Reading.{reading}
-
-abbrev pub onAnswer : Answer → Record → (ℕ → List Record) → List Record
-onAnswer (Got next) instruction rest = instruction ∷ rest next
-onAnswer (Refused r) instruction rest = []
-
--- so many instructions of a stream, from a place on
-unfoldable pub recordsFrom : ℕ → ℕ → List ℕ → ℕ → List Record
-recordsFrom zero version stream at = []
-recordsFrom (suc more) version stream at =
-    onAnswer (reading version stream at .answer) (reading version stream at .instruction) (λ next. recordsFrom more version stream next)
 
 -- the records of chunks
 abbrev pub recordsOf : Version → List (List ℕ) → List Record

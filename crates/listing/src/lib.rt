@@ -1,1 +1,1 @@
-// The theorems about reading a stream from boundary to boundary.
+// The theorems about the records of a cutting.

@@ -100,7 +100,7 @@ pub fn shape_of(version: Version, opcode: u32) -> u64
     let rank = rank_of(version);
     let row = row_of(opcode);
     if (row >> rank) % 2 == 0 {
-        // "37 SINCOS: DSSS; in V3 P3 DS"
+        // SINCOS: "DSSS; in V3 P3 DS"
         if (opcode == 37) & (rank % 2 == 1) {
             return rows::SINCOS_THIRD / 16;
         }

@@ -2,3 +2,4 @@ pub mod Below
 pub mod OneToOne
 pub mod Vectors
 pub mod LowBits
+pub mod VersionTokens

@@ -4,7 +4,7 @@ use mathlib.Core.Bool.{Bool, true, false, _||_}
 use mathlib.Core.List.{List, [], _∷_}
 use lib.Dec.{eqb}
 
--- "bits 27:24" of a token
+-- a token's bits from one down to another: "Bits 27:24" are `bits 27 24`
 abbrev pub bits : ℕ → ℕ → ℕ → ℕ
 bits high low token = token / 2 ^ low % 2 ^ (suc high - low)
 

@@ -61,7 +61,7 @@ mayBeRelative v place = isFree place && pick (isDestination place) (relativeDest
 abbrev pub relativeLaid : Version → Place → ℕ → Bool
 relativeLaid v place token = eqb (bit 13 token) 0 || mayBeRelative v place
 
--- "Destination: mask 19:16 free; bit 20 saturate free in all versions; bits 21 and 22 pixel only; 23 and 27:24 zero."
+-- "Destination: mask 19:16 free; bit 20 saturate free in all versions ..; bits 21 and 22 pixel only; 23 and 27:24 zero."
 abbrev pub destinationLaid : Version → Place → ℕ → Bool
 destinationLaid v place token =
     bothLaid token

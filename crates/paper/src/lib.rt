@@ -61,7 +61,7 @@ pub struct Refusal {
     pub position: usize,
 }
 
-// "An item is one instruction or a block": what an instruction is to the blocks around it.
+// "an item is one instruction or a block": what an instruction is to the blocks around it.
 pub enum Single {
     Comment,
     Plain,

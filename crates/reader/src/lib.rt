@@ -8,7 +8,7 @@ use paper::Refusal;
 use paper::Version;
 use records::Record;
 
-// "More than 16,384 tokens."
+// LENGTH: "over 16,384 only".
 const MOST_TOKENS: usize = 16384;
 
 // The next place, or why there is no instruction.

@@ -133,7 +133,7 @@ fn refused(reason: Reason, position: usize) -> Stepped
     Stepped::Refused(Refusal { reason, position })
 }
 
-// "The number of instructions, comments and END not counted."
+// "the number of instructions, comments and END not counted"
 fn counted(class: Class, count: usize) -> usize
     ensures { λ r. ⌜ r ≡ wrapped (counts class count) ⌝ }
 {

@@ -21,18 +21,13 @@ use Rattle.paper.specs.declared.Refusal.{Refusal}
 use Rattle.paper.specs.declared.Class.{Class}
 use Rattle.paper.specs.declared.Judged.{Judged}
 use Rattle.paper.specs.declared.Judged.the-variants.{Good as Lawful, Refused as Unlawful}
+use Rattle.paper.proofs.VersionTokens.{named-back}
 use Rattle.records.specs.declared.Record.{Record}
 use Rattle.records.specs.Record.{recordOn, recordOf}
 use Rattle.reader.specs.declared.Answer.the-variants.{Got, Refused}
 use Rattle.reader.specs.declared.Reading.{Reading}
 use Rattle.reader.specs.Reading.{unread, got, readJudged, readingAt, reading}
 use Rattle.writer.specs.Tokens.{bodyOn, commentBody}
-
-pub known : (v : Version) → named (versionToken v) ≡ Known v
-known V2 = refl
-known V3 = refl
-known P2 = refl
-known P3 = refl
 
 -- the tokens at the place are an instruction with this record
 pub record ReadFrom (v : Version) (tokens : List ℕ) (at next : ℕ) (r : Record) : Type 0 where
@@ -75,13 +70,13 @@ module _ (v : Version) (tokens : List ℕ) (at next : ℕ) (r : Record) where
 
   pub read-from : reading (versionToken v) tokens at ≡ got next r → ReadFrom v tokens at next r
   unfolding reading
-  read-from e = by-length (leb (length tokens) mostTokens) refl (rw (known v) at e)
+  read-from e = by-length (leb (length tokens) mostTokens) refl (rw (named-back v) at e)
 
 -- from place 0
 pub reads-own : (v : Version) (tokens : List ℕ) {size : ℕ} {class : Class} → length tokens ≤ mostTokens → 0 < length tokens → judged v tokens ≡ Lawful size class →
     reading (versionToken v) tokens 0 ≡ got (0 + size + 1) (recordOf v tokens)
 unfolding reading readingAt
-reads-own v tokens few some j = rw (le-leb (length tokens) mostTokens few, known v, lt-ltb 0 (length tokens) some, j)
+reads-own v tokens few some j = rw (le-leb (length tokens) mostTokens few, named-back v, lt-ltb 0 (length tokens) some, j)
 
 -- only a comment has a body
 module _ (v : Version) where

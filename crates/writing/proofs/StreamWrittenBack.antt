@@ -32,7 +32,8 @@ use Rattle.writing.specs.Buffer.{pasted, onFront}
 use Rattle.writing.specs.Writing.{Yielded, bodyLength, ToldWriting, toldWriting, Writes, written}
 use Rattle.writing.specs.InOrder.{Piece, piecesOf, WritesAll, all-written, next-written}
 use Rattle.writing.proofs.Paste.{pasted-on, pasted-front, length-pasted}
-use Rattle.writing.proofs.Readings.{known, reads-own}
+use Rattle.writing.proofs.Readings.{reads-own}
+use Rattle.paper.proofs.VersionTokens.{named-back}
 use Rattle.writing.proofs.Answers.{version-named}
 use Rattle.writing.proofs.Exactly.{one-writing}
 
@@ -71,7 +72,7 @@ module _ (v : Version) (first : ℕ) (rest : List ℕ) {class : Class} (words : 
       Writes (versionToken v) (recordOf v (first ∷ rest)) (commentBody v (first ∷ rest)) buffer at (toldWriting (Wrote (at + suc (length rest)))) (pasted buffer at (first ∷ rest))
   chunk-written buffer at h =
       let own : Writes (versionToken v) (recordOf v (first ∷ rest)) (commentBody v (first ∷ rest)) buffer at _ _ =
-      written (known v) (record { yielded = chunk-yielded; agrees = body-agrees v first rest alone }) (rw chunk-back h) in
+      written (named-back v) (record { yielded = chunk-yielded; agrees = body-agrees v first rest alone }) (rw chunk-back h) in
       rw chunk-back at own
 
 words-front : (a b : List ℕ) → Words (a ++ b) → Words a
