@@ -98,7 +98,11 @@ fn unfree_laid(token: u32) -> bool
 pub fn typed_source_laid(version: Version, token: u32) -> bool
     ensures { λ r. ⌜ r ≡ laid version condition token ⌝ }
 {
-    if unfree_laid(token) {
+    let unfree = unfree_laid(token);
+    if unfree & (token / 0x100_0000 % 16 == 0) {
+        return true;
+    }
+    if unfree {
         return source_modifier(token);
     }
     false

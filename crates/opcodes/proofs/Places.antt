@@ -1,6 +1,6 @@
 -- A place and its number: each gives the other back.
 use Prim.Native.Nat.{ℕ, _+_, _/_, _%_, _≤_, _<_}
-use mathlib.Core.Path.{_≡_, refl}
+use mathlib.Core.Path.{_≡_, refl, _∙_}
 use mathlib.Core.Bool.{Bool, true, false, _&&_}
 use mathlib.Core.List.{List, [], _∷_}
 use native.Mathlib.Omega.{arith}
@@ -74,48 +74,40 @@ number-some condition = omega arith
 number-some predicate = omega arith
 number-some relative = omega arith
 
+-- a number with a type in its lowest five bits is that of a place of one type
+one-typed : (n : ℕ) → 3 ≤ n → n % 32 < 28 →
+    placeBy n ≡ pick (eqb (n / 32) 1) (destination (only (n % 32 ∷ []))) (source (only (n % 32 ∷ [])))
+unfolding placeBy
+one-typed n some low =
+    rw (
+      ne-eqb n 1 (λ e. omega arith),
+      ne-eqb n 2 (λ e. omega arith),
+      ne-eqb n 61 (λ e. omega (arith, low, e)),
+      ne-eqb n 62 (λ e. omega (arith, low, e)),
+      ne-eqb n 63 (λ e. omega (arith, low, e)),
+      ne-eqb n 92 (λ e. omega (arith, low, e)),
+      ne-eqb n 93 (λ e. omega (arith, low, e)),
+      ne-eqb n 94 (λ e. omega (arith, low, e)),
+      ne-eqb n 95 (λ e. omega (arith, low, e)),
+    )
+
 destination-back : (types : List ℕ) → isDestination types ≡ true → placeBy (numberBy (destination (only types))) ≡ destination (only types)
 unfolding placeBy
 destination-back [] t = absurd-bool t
 destination-back (type ∷ []) t =
     let h : type < 28 = ltb-true type 28 t in
     let type-back : (32 + type) % 32 ≡ type = omega arith in
-    rw (
-      ne-eqb (32 + type) 1 (λ e. omega arith),
-      ne-eqb (32 + type) 2 (λ e. omega arith),
-      ne-eqb (32 + type) 61 (λ e. omega arith),
-      ne-eqb (32 + type) 62 (λ e. omega arith),
-      ne-eqb (32 + type) 63 (λ e. omega arith),
-      ne-eqb (32 + type) 92 (λ e. omega arith),
-      ne-eqb (32 + type) 93 (λ e. omega arith),
-      ne-eqb (32 + type) 94 (λ e. omega arith),
-      ne-eqb (32 + type) 95 (λ e. omega arith),
-      eq-eqb ((32 + type) / 32) 1 (omega arith),
-      type-back,
-    )
+    one-typed (32 + type) (omega arith) (omega arith) ∙ rw (eq-eqb ((32 + type) / 32) 1 (omega arith), type-back)
 destination-back (type ∷ (other ∷ [])) t =
     rw (eqb-true type 0 (both-left (eqb type 0) (eqb other 3) t), eqb-true other 3 (both-right (eqb type 0) (eqb other 3) t))
 destination-back (type ∷ (other ∷ (third ∷ types))) t = absurd-bool t
 
 source-back : (types : List ℕ) → isSource types ≡ true → placeBy (numberBy (source (only types))) ≡ source (only types)
-unfolding placeBy
 source-back [] t = absurd-bool t
 source-back (type ∷ []) t =
     let h : type < 28 = ltb-true type 28 t in
     let type-back : (64 + type) % 32 ≡ type = omega arith in
-    rw (
-      ne-eqb (64 + type) 1 (λ e. omega arith),
-      ne-eqb (64 + type) 2 (λ e. omega arith),
-      ne-eqb (64 + type) 61 (λ e. omega arith),
-      ne-eqb (64 + type) 62 (λ e. omega arith),
-      ne-eqb (64 + type) 63 (λ e. omega arith),
-      ne-eqb (64 + type) 92 (λ e. omega arith),
-      ne-eqb (64 + type) 93 (λ e. omega arith),
-      ne-eqb (64 + type) 94 (λ e. omega arith),
-      ne-eqb (64 + type) 95 (λ e. omega arith),
-      ne-eqb ((64 + type) / 32) 1 (λ e. omega arith),
-      type-back,
-    )
+    one-typed (64 + type) (omega arith) (omega arith) ∙ rw (ne-eqb ((64 + type) / 32) 1 (λ e. omega arith), type-back)
 source-back (type ∷ (other ∷ types)) t = absurd-bool t
 
 pub place-back : (p : Place) → isPlace p ≡ true → placeBy (numberBy p) ≡ p

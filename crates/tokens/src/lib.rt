@@ -1,6 +1,9 @@
 // Operand tokens, judged at their places: document 01, "Operand tokens".
 ghost use mathlib.Core.Path.{_≡_};
 ghost use mathlib.Core.Bool.{true, false};
+ghost use mathlib.Core.List.{[], _∷_};
+ghost use Prim.Native.Nat.{_%_};
+ghost use Rattle.paper.specs.Notation.{among};
 ghost use Rattle.versions.specs.Sets.{holds};
 ghost use Rattle.opcodes.specs.Places.{placeBy};
 ghost use Rattle.paper.specs.OperandTokens.{typeOf, isFree, laid, typed, layoutThenType, tokenAt, bringsRelative};
@@ -17,6 +20,9 @@ const USAGE: u64 = 2;
 const DECLARED: u64 = 61;
 
 const KILLED: u64 = 62;
+
+// Places with a name are these and more in their lowest five bits: no register's type is.
+const NAMED: u64 = 28;
 
 const FREE_DESTINATION: u64 = 63;
 
@@ -46,6 +52,9 @@ fn typed_laid(version: Version, place: u64, token: u32) -> bool
     if place / 32 == 1 {
         return layout::typed_destination_laid(version, token);
     }
+    if place < PREDICATE {
+        return layout::typed_source_laid(version, token);
+    }
     if place == PREDICATE {
         return layout::predicate_laid(version, token);
     }
@@ -55,11 +64,21 @@ fn typed_laid(version: Version, place: u64, token: u32) -> bool
     layout::typed_source_laid(version, token)
 }
 
-// The type at such a place. DCL's types are told with its destination, in crate `dcl`.
+// Whether a token's type is the one that its place's number has in its lowest five bits.
+fn one_typed(place: u64, token: u32) -> bool
+    ensures { λ r. ⌜ r ≡ among (typeOf token) (place % 32 ∷ []) ⌝ }
+{
+    versions::type_in(1 << (place % 32), token)
+}
+
+// The type at such a place, those of one type first. DCL's types are told with its destination, in crate `dcl`.
 fn typed_at(version: Version, place: u64, token: u32) -> bool
     requires { ⌜ (isRaw (placeBy place) ≡ false) × (isFree (placeBy place) ≡ false) ⌝ }
     ensures { λ r. ⌜ r ≡ typed version (placeBy place) (typeOf token) ⌝ }
 {
+    if place % 32 < NAMED {
+        return one_typed(place, token);
+    }
     if place == KILLED {
         return versions::type_in(KILLED_TYPES, token);
     }
@@ -75,7 +94,7 @@ fn typed_at(version: Version, place: u64, token: u32) -> bool
     if place == DECLARED {
         return true;
     }
-    versions::type_in(1 << (place % 32), token)
+    one_typed(place, token)
 }
 
 // What is told of a token whose layout is right.

@@ -1,4 +1,5 @@
-use mathlib.Core.Path.{_∙_, sym}
+use mathlib.Core.Path.{_∙_}
+use native.Mathlib.Omega.{arith}
 use borrow.Author.Needs.{needs}
 use Rattle.opcodes.proofs.Places.{predicate-place, relative-place}
 use Rattle.tokens.proofs.Laws.{typed-destination-at, typed-source-at}
@@ -14,27 +15,37 @@ returns c =
     c .typed-destination-laid .ensures
     ∙ typed-destination-at (s .args .version) (s .args .token) (s .args .place) (s .pre .0) (s .pre .1) (c .before .if1 .taken)
 
+typed-source-laid-requires : tie.Need-typed-source-laid-requires
+typed-source-laid-requires c κs = search needs
+
+returns-2 : tie.Need-returns-2
+returns-2 c =
+    let s = c .before .before .before in
+    c .typed-source-laid .ensures
+    ∙ typed-source-at (s .args .version) (s .args .token) (s .args .place) (s .pre .0) (s .pre .1) (c .before .before .if1 .left)
+    (λ e. omega (arith, c .before .if2 .taken, e)) (λ e. omega (arith, c .before .if2 .taken, e))
+
 predicate-laid-requires : tie.Need-predicate-laid-requires
 predicate-laid-requires c κs = search needs
 
-returns-2 : tie.Need-returns-2
-returns-2 c = rw (c .before .if2 .taken, predicate-place) (c .predicate-laid .ensures)
+returns-3 : tie.Need-returns-3
+returns-3 c = rw (c .before .if3 .taken, predicate-place) (c .predicate-laid .ensures)
 
 relative-laid-requires : tie.Need-relative-laid-requires
 relative-laid-requires c κs = search needs
 
-returns-3 : tie.Need-returns-3
-returns-3 c = rw (c .before .if3 .taken, relative-place) (c .relative-laid .ensures)
-
-typed-source-laid-requires : tie.Need-typed-source-laid-requires
-typed-source-laid-requires c κs = search needs
-
 returns-4 : tie.Need-returns-4
-returns-4 c =
-    let s = c .before .before .before .before in
-    c .typed-source-laid .ensures
-    ∙ typed-source-at (s .args .version) (s .args .token) (s .args .place) (s .pre .0) (s .pre .1) (c .before .before .before .if1 .left)
-    (c .before .before .if2 .left) (c .before .if3 .left)
+returns-4 c = rw (c .before .if4 .taken, relative-place) (c .relative-laid .ensures)
+
+typed-source-laid-requires-2 : tie.Need-typed-source-laid-requires-2
+typed-source-laid-requires-2 c κs = search needs
+
+returns-5 : tie.Need-returns-5
+returns-5 c =
+    let s = c .before .before .before .before .before in
+    c .typed-source-laid2 .ensures
+    ∙ typed-source-at (s .args .version) (s .args .token) (s .args .place) (s .pre .0) (s .pre .1) (c .before .before .before .before .if1 .left)
+    (c .before .before .if3 .left) (c .before .if4 .left)
 
 pub typed-laid-spec : {M : Type 1} → statement M
 typed-laid-spec =
@@ -42,9 +53,11 @@ typed-laid-spec =
     (tie.spec
     typed-destination-laid-requires
     returns
-    predicate-laid-requires
-    returns-2
-    relative-laid-requires
-    returns-3
     typed-source-laid-requires
-    returns-4)
+    returns-2
+    predicate-laid-requires
+    returns-3
+    relative-laid-requires
+    returns-4
+    typed-source-laid-requires-2
+    returns-5)
