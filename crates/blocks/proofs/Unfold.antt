@@ -13,7 +13,6 @@ use Rattle.paper.specs.declared.Class.the-variants.{One, Opens, Closes}
 use Rattle.paper.specs.declared.Opener.{Opener}
 use Rattle.paper.specs.declared.Opener.the-variants.{If, Loop, Rep}
 use Rattle.paper.specs.declared.Closer.{Closer}
-use Rattle.paper.specs.declared.Closer.the-variants.{Else, EndIf, EndLoop, EndRep, End}
 use Rattle.paper.specs.declared.Single.{Single}
 use Rattle.paper.specs.declared.Refusal.{Refusal}
 use Rattle.paper.specs.declared.Reason.the-variants.{RunOut as RUN-OUT, Block as BLOCK, Depth as DEPTH}

@@ -4,7 +4,7 @@ use mathlib.Core.Path.{_≡_, refl, ap, sym, _∙_}
 use mathlib.Core.Bool.{Bool, true, false}
 use mathlib.Core.List.{List, [], _∷_}
 use native.Mathlib.Omega.{arith}
-use lib.Dec.{eqb, ltb}
+use lib.Dec.{ltb}
 use lib.ListN.{length}
 use borrow.Author.Tests.{lt-ltb}
 use Rattle.paper.specs.Notation.{pick}
@@ -16,7 +16,7 @@ use Rattle.paper.specs.declared.Class.the-variants.{One, Opens, Closes}
 use Rattle.paper.specs.declared.Opener.{Opener}
 use Rattle.paper.specs.declared.Opener.the-variants.{If, Loop, Rep}
 use Rattle.paper.specs.declared.Closer.{Closer}
-use Rattle.paper.specs.declared.Closer.the-variants.{Else, EndIf, EndLoop, EndRep, End}
+use Rattle.paper.specs.declared.Closer.the-variants.{End}
 use Rattle.paper.specs.declared.Refusal.{Refusal}
 use Rattle.paper.specs.declared.Reason.the-variants.{Block as BLOCK, Depth as DEPTH}
 use Rattle.paper.specs.declared.Verdict.{Verdict}

@@ -10,7 +10,6 @@ use Rattle.paper.specs.declared.Class.{Class}
 use Rattle.paper.specs.declared.Class.the-variants.{One, Opens, Closes}
 use Rattle.paper.specs.declared.Opener.{Opener}
 use Rattle.paper.specs.declared.Closer.{Closer}
-use Rattle.paper.specs.declared.Closer.the-variants.{End}
 use Rattle.paper.specs.declared.Reason.the-variants.{RunOut as RUN-OUT, Block as BLOCK, Depth as DEPTH}
 use Rattle.paper.specs.declared.Refusal.{Refusal}
 use Rattle.paper.specs.declared.Verdict.{Verdict}

@@ -1,10 +1,9 @@
 -- A turn of the walk over a part of a stream: a stretch of plain instructions, and the step over the instruction at its end.
-use Prim.Native.Nat.{ℕ, suc, _+_, _*_, _-_, _/_, _^_, _≤_, _<_}
+use Prim.Native.Nat.{ℕ, _+_, _*_, _-_, _^_, _≤_, _<_}
 use mathlib.Core.Path.{_≡_, refl, sym, _∙_}
 use mathlib.Core.Bool.{Bool, true, false}
 use mathlib.Core.List.{List}
 use mathlib.Core.Logic.{⊎-elim}
-use native.Mathlib.Nat.{add-zero}
 use native.Mathlib.Omega.{arith}
 use lib.ListN.{length, drop}
 use lib.Dec.{ltb}
@@ -14,7 +13,6 @@ use Rattle.paper.specs.Instruction.{judged}
 use Rattle.paper.specs.Stream.{walked}
 use Rattle.paper.specs.declared.Version.{Version}
 use Rattle.paper.specs.declared.Reason.the-variants.{RunOut as RUN-OUT}
-use Rattle.paper.specs.declared.Refusal.{Refusal}
 use Rattle.paper.specs.declared.Verdict.the-variants.{Refused as no-verdict}
 use Rattle.told.specs.Numbered.{judgedNumber, judgedFrom}
 use Rattle.stretches.specs.Stretch.{toldAt, Stretched}
@@ -23,7 +21,7 @@ use Rattle.stretches.proofs.Stretches.{told-far, told-end}
 use Rattle.walk.specs.declared.State.{State}
 use Rattle.walk.specs.declared.Stepped.{Stepped}
 use Rattle.walk.specs.declared.Stepped.the-variants.{On, Done, Refused}
-use Rattle.walk.specs.Steps.{stateOf, onJudged}
+use Rattle.walk.specs.Steps.{stateOf, onJudged, toldStepped}
 use Rattle.walk.specs.Stands.{Stands, Ends, stepAt}
 use Rattle.walk.proofs.Stretching.{stretch-passed, stretch-steps}
 use Rattle.walk.proofs.OnStream.{step-on, step-done, step-refused, ends-accepted, ends-tail, stands-out}
@@ -76,7 +74,7 @@ module _ (v : Version) (bytes : List ℕ) (tokens : ℕ) (whole : length bytes �
         view-inside : view .start + r .at < length (tokensIn bytes)
         view-inside = omega (arith, view-there .2, within .inside, within .begins, long)
 
-        module _ (x : Stepped) (e : x ≡ onJudged (judgedFrom (r .told)) (stateOf (view .start + r .at) (state .count + r .count) (state .kinds))) where
+        module _ (x : Stepped) (e : toldStepped x ≡ toldStepped (onJudged (judgedFrom (r .told)) (stateOf (view .start + r .at) (state .count + r .count) (state .kinds)))) where
           steps : stepAt v (tokensIn bytes) (stateOf (view .start + r .at) (state .count + r .count) (state .kinds)) ≡ x
           steps =
               stretch-steps v (tokensIn bytes) part (tokens - (view .start + view .held)) (view .until - view .start) (λ q. view .start + q) (λ q k. omega arith)

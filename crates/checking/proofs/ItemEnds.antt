@@ -8,7 +8,7 @@ use native.Mathlib.Omega.{arith}
 use lib.Dec.{eqb, ltb}
 use lib.ListN.{length, drop, length-drop, drop-of-length-le}
 use borrow.Author.Tests.{lt-ltb, le-ltb, ltb-true, ltb-false, ne-eqb}
-use Rattle.paper.specs.Numbers.{refusal}
+use Rattle.paper.specs.Numbers.{refusal, toldInstruction}
 use Rattle.paper.specs.Instruction.{judged}
 use Rattle.paper.specs.Blocks.{then, isZero, mayStand, mostOpen}
 use Rattle.paper.specs.Stream.{cutFrom}
@@ -24,6 +24,7 @@ use Rattle.paper.specs.declared.Reason.the-variants.{RunOut as RUN-OUT, Block a
 use Rattle.paper.specs.declared.Judged.{Judged}
 use Rattle.paper.specs.declared.Judged.the-variants.{Good, Refused as Wrong}
 use Rattle.paper.specs.Walk.{counts}
+use Rattle.paper.proofs.OneToOne.{same-instruction}
 use Rattle.blocks.specs.Descent
 use Rattle.blocks.specs.Descent.{refused, itemOf, blockOf}
 use Rattle.blocks.proofs.Cutting.{cut-none, cut-at}
@@ -76,9 +77,9 @@ out-is at r e =
     ap (λ n. refused (refusal RUN-OUT n)) (sym (add-zero at)) ∙ ap (λ (x : Refusal). refused (refusal (x .reason) (at + x .position))) is
 
 module _ (v : Version) {s : List ℕ} {depth at m told : ℕ} (begun : StartsAt s depth at m × (told ≡ toldAt v s 0 at))
-    {j : Judged} (e : j ≡ judgedFrom told) where
+    {j : Judged} (e : toldInstruction j ≡ toldInstruction (judgedFrom told)) where
   judged-at : j ≡ judged v (drop at s)
-  judged-at = e ∙ ap judgedFrom (begun .1 ∙ told-whole v s at) ∙ judged-back (judged v (drop at s))
+  judged-at = same-instruction _ _ e ∙ ap judgedFrom (begun .1 ∙ told-whole v s at) ∙ judged-back (judged v (drop at s))
 
   -- an instruction that is good by itself
   module _ {size : ℕ} {class : Class} (f : j ≡ Good size class) where

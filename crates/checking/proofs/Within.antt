@@ -13,7 +13,7 @@ use Rattle.paper.specs.OperandTokens.{tokenAt, bringsRelative, typeOf, leftOver
 use Rattle.paper.specs.Dcl.{declaredAt, usageLaid, onDeclared, declaration}
 use Rattle.paper.specs.InstructionToken.{opcodeOf}
 use Rattle.paper.specs.Blocks.{classOf}
-use Rattle.paper.specs.Instruction.{Head, broken, end, comment, dcl, operation, tokenHead, onToken, relativeToken, operand, onTaken, operands, onOperands, within, byHead, judged}
+use Rattle.paper.specs.Instruction.{Head, broken, end, comment, dcl, operation, tokenHead, onToken, relativeToken, operand, onTaken, operands, onOperands, byHead, judged}
 use Rattle.paper.specs.declared.Version.{Version}
 use Rattle.paper.specs.declared.Reason.the-variants.{Operand as OPERAND, RunOut as RUN-OUT}
 use Rattle.paper.specs.declared.Class.{Class}

@@ -1,22 +1,19 @@
 -- END is known by its token.
 use Prim.Native.Nat.{ℕ}
-use mathlib.Core.Path.{_≡_, refl, ap, sym, _∙_}
-use mathlib.Core.Bool.{Bool, true, false, _||_}
+use mathlib.Core.Path.{_≡_, ap, sym, _∙_}
+use mathlib.Core.Bool.{false}
 use mathlib.Core.List.{List}
-use lib.Dec.{eqb}
 use lib.ListN.{length, take}
-use Rattle.paper.specs.Notation.{pick}
 use Rattle.paper.specs.OpcodeTable
 use Rattle.paper.specs.InstructionToken.{opcodeOf, statedSize, commentLength, isPredicated, withPredicate}
 use Rattle.paper.specs.Dcl.{declaration}
 use Rattle.paper.specs.Instruction.{operands, onOperands, within, byHead, judged}
 use Rattle.paper.specs.Blocks.{classOf}
 use Rattle.paper.specs.declared.Version.{Version}
-use Rattle.paper.specs.declared.Single.the-variants.{Comment, Break, Label, Return, Plain}
-use Rattle.paper.specs.declared.Opener.the-variants.{If, Loop, Rep}
-use Rattle.paper.specs.declared.Closer.the-variants.{Else, EndIf, EndLoop, EndRep, End}
+use Rattle.paper.specs.declared.Single.the-variants.{Comment}
+use Rattle.paper.specs.declared.Closer.the-variants.{End}
 use Rattle.paper.specs.declared.Class.{Class}
-use Rattle.paper.specs.declared.Class.the-variants.{One, Opens, Closes}
+use Rattle.paper.specs.declared.Class.the-variants.{One, Closes}
 use Rattle.paper.specs.declared.Judged.the-variants.{Good}
 use Rattle.paper.specs.declared.Operands.{Operands}
 use Rattle.blocks.specs.Begins.{endsStream}

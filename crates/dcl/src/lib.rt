@@ -1,6 +1,7 @@
 // The operands of DCL: document 01, "DCL".
 ghost use mathlib.Core.Path.{_≡_};
 ghost use Rattle.paper.specs.Notation.{pick};
+ghost use Rattle.paper.specs.Numbers.{toldOperands};
 ghost use Rattle.paper.specs.OperandTokens.{typeOf, refusedOperands};
 ghost use Rattle.paper.specs.Dcl.{samplerForm, plainForm, usageForm, vertexUsage, pixelUsage, samplerTypes, plainTypes, usageTypes, formLaid, isDeclared, positionOrFace, faceLaid, declaredAt, onDeclared, usageLaid, declaration};
 ghost use Rattle.versions.specs.Sets.{setOf};
@@ -181,7 +182,7 @@ fn conclude(destination: Token, usage_laid: bool, no_more: bool) -> Operands
 
 // The tokens behind a DCL's instruction token: U, the destination, and no more.
 pub fn judge_declaration(version: Version, behind: &[u32]) -> Operands
-    ensures { λ r. ⌜ r ≡ declaration version (now (behind .entry)) ⌝ }
+    ensures { λ r. ⌜ toldOperands r ≡ toldOperands (declaration version (now (behind .entry))) ⌝ }
 {
     if behind.len() < 2 {
         return refused(Reason::Size, 0);

@@ -1,12 +1,12 @@
 -- The reader, from where a row of chunks begins in a stream, gives the chunks' records at their places, with their bodies, up to END.
-use Prim.Native.Nat.{ℕ, suc, _+_, _≤_, _<_}
+use Prim.Native.Nat.{ℕ, suc, _+_, _≤_}
 use mathlib.Core.Path.{_≡_, refl, sym, ap, subst, _∙_}
 use mathlib.Core.Bool.{false}
 use mathlib.Core.List.{List, [], _∷_, _++_}
 use native.Mathlib.Omega.{arith}
-use lib.ListN.{length, take, drop, length-append, length-drop}
-use lib.Seq.{take-length, take-at, drop-at, drop-drop, take-append-le}
-use borrow.Author.Tests.{eqb-true, eqb-false, le-leb}
+use lib.ListN.{length, take, drop, length-append}
+use lib.Seq.{drop-drop, take-append-le}
+use borrow.Author.Tests.{eqb-true, eqb-false}
 use Rattle.paper.specs.Versions.{versionToken}
 use Rattle.paper.specs.InstructionToken.{opcodeOf, endOpcode, endToken}
 use Rattle.paper.specs.Instruction.{Head, broken, end, comment, dcl, operation, tokenHead, byHead, judged}
@@ -22,20 +22,17 @@ use Rattle.blocks.specs.Begins.{endsStream}
 use Rattle.cutting.specs.Claim.{claim}
 use Rattle.cutting.specs.CutBy.{isEndToken}
 use Rattle.cutting.specs.Cuttings.{joined, Alone, Chunks, last, next}
-use Rattle.cutting.proofs.OwnTokens.{apart, good-claim, good-alone, within-good}
+use Rattle.cutting.proofs.OwnTokens.{apart, good-claim, within-good}
 use Rattle.cutting.proofs.EndToken.{ends-by-token}
 use Rattle.records.specs.declared.Record.{Record}
 use Rattle.records.specs.Record.{endRecord, recordOn, recordOf}
 use Rattle.records.proofs.Heads.{is-end, is-comment, is-dcl, is-operation}
 use Rattle.records.proofs.Laws.{end-record}
-use Rattle.reader.specs.Reading.{got, reading}
-use Rattle.reader.proofs.Laws.{reading-own}
 use Rattle.listing.specs.Listing.{recordsOf}
 use Rattle.listing.proofs.ChunkRead.{behind, read-here}
 use Rattle.writer.specs.Tokens.{bodyOn, commentBody}
 use Rattle.writing.specs.Writing.{bodyLength}
 use Rattle.writing.specs.InOrder.{Piece, piecesOf}
-use Rattle.paper.proofs.VersionTokens.{named-back}
 use Rattle.demands.specs.Reading.{Given, givenAt, ReadUp, ends, goes, placesRead, recordsIn, piecesIn, lastPlace, boundariesOf}
 
 -- a lawful chunk's record is END's exactly if the chunk is END

@@ -3,6 +3,7 @@ use Prim.Native.Nat.{ℕ, _+_, _*_, _/_, _%_, _^_}
 use mathlib.Core.Bool.{Bool, not, _&&_, _||_}
 use lib.Dec.{eqb, leb}
 use Rattle.paper.specs.Notation.{bits, bit, pick}
+use Rattle.paper.specs.Numbers.{numberOf}
 use Rattle.paper.specs.OpcodeTable.{DCL}
 use Rattle.paper.specs.InstructionToken.{opcodeOf, controlsOf, statedSize, isPredicated}
 use Rattle.paper.specs.Instruction.{Head as Said, broken, end, comment, dcl, operation}
@@ -19,6 +20,21 @@ encoded end = End
 encoded (comment size) = Comment size
 encoded (dcl size) = Declaration size
 encoded (operation places size) = Operation (digits places) size
+
+-- what is told of a head: the number of a refusal, or 0; what it says, 1 for END, 2 for a comment, 3 for a DCL, 4 for another instruction; the
+-- places of that one's operands as one number; how many tokens it claims behind the first
+pub record ToldHead : Type 0 where
+  pub number : ℕ
+  pub says : ℕ
+  pub places : ℕ
+  pub claims : ℕ
+
+unfoldable pub toldHead : Head → ToldHead
+toldHead (Refused reason) = record { number = numberOf reason; says = 0; places = 0; claims = 0 }
+toldHead End = record { number = 0; says = 1; places = 0; claims = 0 }
+toldHead (Comment size) = record { number = 0; says = 2; places = 0; claims = size }
+toldHead (Declaration size) = record { number = 0; says = 3; places = 0; claims = size }
+toldHead (Operation places size) = record { number = 0; says = 4; places = places; claims = size }
 
 -- how many tokens a head claims behind the first
 abbrev pub claimOf : Head → ℕ

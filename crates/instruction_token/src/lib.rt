@@ -4,7 +4,7 @@ ghost use lib.Dec.{eqb};
 ghost use Rattle.paper.specs.Notation.{pick};
 ghost use Rattle.paper.specs.InstructionToken.{commentLaid, commentLength, endToken};
 ghost use Rattle.paper.specs.Instruction.{tokenHead};
-ghost use Rattle.instruction_token.specs.Encoded.{encoded, claimOf, hasZeros, controlsBy, bitsBy, placesBy, headBy};
+ghost use Rattle.instruction_token.specs.Encoded.{encoded, toldHead, claimOf, hasZeros, controlsBy, bitsBy, placesBy, headBy};
 use paper::Reason;
 use paper::Version;
 
@@ -101,7 +101,7 @@ fn shape_head(shape: u64, token: u32) -> Head
 
 // What an instruction's first token says by itself.
 pub fn read_head(version: Version, token: u32) -> Head
-    ensures { λ r. ⌜ r ≡ encoded (tokenHead version token) ⌝ }
+    ensures { λ r. ⌜ toldHead r ≡ toldHead (encoded (tokenHead version token)) ⌝ }
 {
     let opcode = token % 0x1_0000;
     if opcode == 0xFFFE {

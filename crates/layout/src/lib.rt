@@ -4,6 +4,7 @@ ghost use mathlib.Core.Bool.{_&&_, _||_};
 ghost use lib.Dec.{eqb};
 ghost use Rattle.paper.specs.Notation.{bits, bit};
 ghost use Rattle.paper.specs.Versions.{isPixel};
+ghost use Rattle.paper.specs.Numbers.{toldToken};
 ghost use Rattle.paper.specs.Places.{freeDestination, freeSource, declared, condition, predicate, relative};
 ghost use Rattle.paper.specs.OperandTokens.{typeOf, modifierOf, bothLaid, sourceModifier, laid, layoutThenType};
 use paper::Reason;
@@ -129,7 +130,7 @@ pub fn relative_laid(version: Version, token: u32) -> bool
 }
 
 pub fn layout_then_type(laid: bool, typed: bool) -> Token
-    ensures { λ r. ⌜ r ≡ layoutThenType laid typed ⌝ }
+    ensures { λ r. ⌜ toldToken r ≡ toldToken (layoutThenType laid typed) ⌝ }
 {
     if laid {
         if typed {

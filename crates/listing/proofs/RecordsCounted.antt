@@ -1,40 +1,25 @@
 -- The records of a cutting that are neither a comment's nor END's are as many as its instructions.
 use mathlib.Core.Path.{_≡_, refl, sym, ap, _∙_}
-use mathlib.Core.Bool.{Bool, true, false, _||_}
-use mathlib.Core.List.{List, [], _∷_, _++_}
-use Prim.Native.Nat.{ℕ, suc, _+_, _≤_, _<_}
-use native.Mathlib.Omega.{arith}
-use lib.Dec.{eqb, leb}
-use lib.ListN.{length, take, drop, length-drop}
-use lib.Seq.{take-length, take-at, drop-at, drop-drop}
-use borrow.Author.Tests.{le-leb, leb-true}
+use mathlib.Core.List.{List, _∷_}
+use Prim.Native.Nat.{ℕ, suc}
+use lib.ListN.{take}
 use Rattle.paper.specs.Notation.{pick}
-use Rattle.paper.specs.Versions.{versionToken, named}
 use Rattle.paper.specs.InstructionToken.{opcodeOf}
 use Rattle.paper.specs.Instruction.{Head, broken, end, comment, dcl, operation, tokenHead, byHead, judged, operands}
 use Rattle.paper.specs.Dcl.{declaration}
 use Rattle.paper.specs.Blocks.{classOf}
-use Rattle.paper.specs.Stream.{mostTokens, verdict}
 use Rattle.paper.specs.declared.Version.{Version}
-use Rattle.paper.specs.declared.Version.the-variants.{V2, V3, P2, P3}
-use Rattle.paper.specs.declared.Named.the-variants.{Known}
 use Rattle.paper.specs.declared.Class.{Class}
-use Rattle.paper.specs.declared.Opener.the-variants.{If, Loop, Rep}
-use Rattle.paper.specs.declared.Closer.the-variants.{Else, EndIf, EndLoop, EndRep, End}
-use Rattle.paper.specs.declared.Class.the-variants.{One, Opens, Closes}
-use Rattle.paper.specs.declared.Single.the-variants.{Comment, Plain, Break, Label, Return}
+use Rattle.paper.specs.declared.Closer.the-variants.{End}
+use Rattle.paper.specs.declared.Class.the-variants.{One, Closes}
+use Rattle.paper.specs.declared.Single.the-variants.{Comment}
 use Rattle.paper.specs.declared.Judged.the-variants.{Good as Lawful}
-use Rattle.paper.specs.declared.Verdict.the-variants.{Accepted}
-use Rattle.paper.proofs.Below.{both-right}
 use Rattle.paper.specs.Walk.{counts}
 use Rattle.blocks.proofs.Classes.{class-counted}
-use Rattle.cutting.specs.Cuttings.{joined, Alone, Chunks, last, next, instructions}
-use Rattle.cutting.proofs.AcceptedIsACutting.{accepted-is-a-cutting}
-use Rattle.cutting.proofs.OwnTokens.{apart, good-alone, within-good, good-operands}
+use Rattle.cutting.specs.Cuttings.{Chunks, last, next, instructions}
+use Rattle.cutting.proofs.OwnTokens.{apart, within-good, good-operands}
 use Rattle.records.specs.Record.{recordOn, recordOf}
 use Rattle.records.proofs.Heads.{is-dcl, is-operation}
-use Rattle.reader.specs.Reading.{got, reading}
-use Rattle.reader.proofs.Laws.{reading-own}
 use Rattle.listing.specs.Listing.{recordsOf, isPassed, counted}
 
 -- an instruction of the table is counted, whatever it is to the blocks

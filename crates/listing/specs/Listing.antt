@@ -1,5 +1,5 @@
 -- The records of a cutting, and how many of them count.
-use Prim.Native.Nat.{ℕ, zero, suc}
+use Prim.Native.Nat.{ℕ, suc}
 use mathlib.Core.Bool.{Bool, _||_}
 use mathlib.Core.List.{List, [], _∷_}
 use lib.Dec.{eqb}
@@ -8,9 +8,6 @@ use Rattle.paper.specs.InstructionToken.{commentOpcode, endOpcode}
 use Rattle.paper.specs.declared.Version.{Version}
 use Rattle.records.specs.declared.Record.{Record}
 use Rattle.records.specs.Record.{recordOf}
-use Rattle.reader.specs.declared.Answer.{Answer}
-use Rattle.reader.specs.declared.Answer.the-variants.{Got, Refused}
-use Rattle.reader.specs.Reading.{reading}
 
 -- the records of chunks
 abbrev pub recordsOf : Version → List (List ℕ) → List Record

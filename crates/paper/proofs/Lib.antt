@@ -1,5 +1,5 @@
 pub mod Below
-pub mod OneToOne
-pub mod Vectors
 pub mod LowBits
 pub mod VersionTokens
+pub mod OneToOne
+pub mod Vectors

@@ -4,12 +4,18 @@ use mathlib.Core.List.{List, [], _∷_}
 use Prim.Native.Nat.{ℕ, suc, _<_}
 use native.Mathlib.Omega.{arith}
 use lib.ListN.{getD}
-use Rattle.paper.specs.Numbers.{numberOf, refusal, ToldVerdict, told, toldToken, ToldInstruction, toldInstruction}
+use Rattle.paper.specs.Versions.{named}
+use Rattle.paper.specs.Numbers.{numberOf, refusal, ToldVerdict, told, ToldNamed, toldNamed, toldToken, ToldOperands, toldOperands, ToldInstruction, toldInstruction}
+use Rattle.paper.proofs.VersionTokens.{named-back}
+use Rattle.paper.specs.declared.Named.{Named}
+use Rattle.paper.specs.declared.Named.the-variants.{Known, Unknown}
 use Rattle.paper.specs.declared.Reason.{Reason}
 use Rattle.paper.specs.declared.Reason.the-variants.{Length as LENGTH, Version as VERSION, Opcode as OPCODE, Bits as BITS, RunOut as RUN-OUT, Size as SIZE, Operand as OPERAND, Register as REGISTER, Block as BLOCK, Depth as DEPTH, Tail as TAIL, Place as PLACE, Room as ROOM, Record as RECORD}
 use Rattle.paper.specs.declared.Refusal.{Refusal}
 use Rattle.paper.specs.declared.Token.{Token}
 use Rattle.paper.specs.declared.Token.the-variants.{Good as GoodToken, Bad as BadToken}
+use Rattle.paper.specs.declared.Operands.{Operands}
+use Rattle.paper.specs.declared.Operands.the-variants.{Fit, Refused as RefusedOperands}
 use Rattle.paper.specs.declared.Judged.{Judged}
 use Rattle.paper.specs.declared.Judged.the-variants.{Good as GoodInstruction, Refused as RefusedInstruction}
 use Rattle.paper.specs.declared.Verdict.{Verdict}
@@ -19,25 +25,29 @@ use Rattle.paper.specs.declared.Verdict.the-variants.{Accepted, Refused}
 byNumber : List Reason
 byNumber = LENGTH ∷ LENGTH ∷ VERSION ∷ OPCODE ∷ BITS ∷ RUN-OUT ∷ SIZE ∷ OPERAND ∷ REGISTER ∷ BLOCK ∷ DEPTH ∷ TAIL ∷ PLACE ∷ ROOM ∷ RECORD ∷ []
 
-back : (r : Reason) → getD byNumber (numberOf r) LENGTH ≡ r
-unfolding byNumber
-back LENGTH = refl
-back VERSION = refl
-back OPCODE = refl
-back BITS = refl
-back RUN-OUT = refl
-back SIZE = refl
-back OPERAND = refl
-back REGISTER = refl
-back BLOCK = refl
-back DEPTH = refl
-back TAIL = refl
-back PLACE = refl
-back ROOM = refl
-back RECORD = refl
+-- the reason that has a number
+pub reasonFrom : ℕ → Reason
+reasonFrom number = getD byNumber number LENGTH
+
+pub reason-back : (r : Reason) → reasonFrom (numberOf r) ≡ r
+unfolding byNumber reasonFrom
+reason-back LENGTH = refl
+reason-back VERSION = refl
+reason-back OPCODE = refl
+reason-back BITS = refl
+reason-back RUN-OUT = refl
+reason-back SIZE = refl
+reason-back OPERAND = refl
+reason-back REGISTER = refl
+reason-back BLOCK = refl
+reason-back DEPTH = refl
+reason-back TAIL = refl
+reason-back PLACE = refl
+reason-back ROOM = refl
+reason-back RECORD = refl
 
 pub same-reason : (a b : Reason) → numberOf a ≡ numberOf b → a ≡ b
-same-reason a b e = sym (back a) ∙ ap (λ (n : ℕ). getD byNumber n LENGTH) e ∙ back b
+same-reason a b e = sym (reason-back a) ∙ ap reasonFrom e ∙ reason-back b
 
 -- no refusal has the number of a yes
 some : (r : Reason) → 0 < numberOf r
@@ -64,13 +74,29 @@ same-refusal a b number position =
     ap (λ (x : Reason). refusal x (a .position)) (same-reason (a .reason) (b .reason) number)
     ∙ ap (refusal (b .reason)) position
 
+pub same-named : (a b : Named) → toldNamed a ≡ toldNamed b → a ≡ b
+unfolding toldNamed
+same-named (Known v) (Known w) e = sym (named-back v) ∙ ap named (ap (λ (t : ToldNamed). t .token) e) ∙ named-back w
+same-named (Known v) Unknown e = absurd (no-reason-zero VERSION (ap (λ (t : ToldNamed). t .number) e))
+same-named Unknown (Known w) e = absurd (no-reason-zero VERSION (sym (ap (λ (t : ToldNamed). t .number) e)))
+same-named Unknown Unknown e = refl
+
 pub same-token : (a b : Token) → toldToken a ≡ toldToken b → a ≡ b
 same-token GoodToken GoodToken e = refl
 same-token GoodToken (BadToken b) e = absurd (no-reason-zero b e)
 same-token (BadToken a) GoodToken e = absurd (no-reason-zero a (sym e))
 same-token (BadToken a) (BadToken b) e = ap BadToken (same-reason a b e)
 
+pub same-operands : (a b : Operands) → toldOperands a ≡ toldOperands b → a ≡ b
+unfolding toldOperands
+same-operands Fit Fit e = refl
+same-operands Fit (RefusedOperands b) e = absurd (no-reason-zero (b .reason) (ap (λ (t : ToldOperands). t .number) e))
+same-operands (RefusedOperands a) Fit e = absurd (no-reason-zero (a .reason) (sym (ap (λ (t : ToldOperands). t .number) e)))
+same-operands (RefusedOperands a) (RefusedOperands b) e =
+    ap RefusedOperands (same-refusal a b (ap (λ (t : ToldOperands). t .number) e) (ap (λ (t : ToldOperands). t .position) e))
+
 pub same-instruction : (a b : Judged) → toldInstruction a ≡ toldInstruction b → a ≡ b
+unfolding toldInstruction
 same-instruction (GoodInstruction n c) (GoodInstruction m d) e =
     let takes : suc n ≡ suc m = ap (λ (t : ToldInstruction). t .takes) e in
     let size : n ≡ m = omega arith in

@@ -183,5 +183,5 @@ allTell [] = true
 allTell (row ∷ more) = tells (toldInstruction (judged (row .version) (row .tokens))) row && allTell more
 
 vectors-hold : allTell vectors ≡ true
-unfolding vectors judged tokenHead operand operands declaration tokenAt typedPlaces entryOf rows classOf classes
+unfolding vectors judged tokenHead operand operands declaration tokenAt typedPlaces entryOf rows classOf classes toldInstruction
 vectors-hold = refl

@@ -1,5 +1,8 @@
 -- Document 01, "The numbers given back".
 use Prim.Native.Nat.{ℕ, suc}
+use Rattle.paper.specs.Versions.{versionToken}
+use Rattle.paper.specs.declared.Named.{Named}
+use Rattle.paper.specs.declared.Named.the-variants.{Known, Unknown}
 use Rattle.paper.specs.declared.Reason.{Reason}
 use Rattle.paper.specs.declared.Reason.the-variants.{Length as LENGTH, Version as VERSION, Opcode as OPCODE, Bits as BITS, RunOut as RUN-OUT, Size as SIZE, Operand as OPERAND, Register as REGISTER, Block as BLOCK, Depth as DEPTH, Tail as TAIL, Place as PLACE, Room as ROOM, Record as RECORD}
 use Rattle.paper.specs.declared.Refusal.{Refusal}
@@ -8,6 +11,8 @@ use Rattle.paper.specs.declared.Class.{Class}
 use Rattle.paper.specs.declared.Class.the-variants.{One}
 use Rattle.paper.specs.declared.Token.{Token}
 use Rattle.paper.specs.declared.Token.the-variants.{Good as GoodToken, Bad as BadToken}
+use Rattle.paper.specs.declared.Operands.{Operands}
+use Rattle.paper.specs.declared.Operands.the-variants.{Fit, Refused as RefusedOperands}
 use Rattle.paper.specs.declared.Judged.{Judged}
 use Rattle.paper.specs.declared.Judged.the-variants.{Good as GoodInstruction, Refused as RefusedInstruction}
 use Rattle.paper.specs.declared.Verdict.{Verdict}
@@ -43,10 +48,28 @@ abbrev pub told : Verdict → ToldVerdict
 told (Accepted n) = record { number = 0; position = 0; count = n }
 told (Refused r) = record { number = numberOf (r .reason); position = r .position; count = 0 }
 
+-- what is told of a version: a yes has number 0 and gives the first token that names the version; a token that names none is VERSION
+pub record ToldNamed : Type 0 where
+  pub number : ℕ
+  pub token : ℕ
+
+unfoldable pub toldNamed : Named → ToldNamed
+toldNamed (Known v) = record { number = 0; token = versionToken v }
+toldNamed Unknown = record { number = numberOf VERSION; token = 0 }
+
 -- what is told of one token: 0, or the number of its fault
 abbrev pub toldToken : Token → ℕ
 toldToken GoodToken = 0
 toldToken (BadToken reason) = numberOf reason
+
+-- what is told of an instruction's operands: a yes has number 0 and position 0, and a refusal's position counts from the instruction
+pub record ToldOperands : Type 0 where
+  pub number : ℕ
+  pub position : ℕ
+
+unfoldable pub toldOperands : Operands → ToldOperands
+toldOperands Fit = record { number = 0; position = 0 }
+toldOperands (RefusedOperands r) = record { number = numberOf (r .reason); position = r .position }
 
 -- what is told of one instruction: a yes has number 0 and position 0, and gives how many tokens it takes and its class; a refusal takes none
 pub record ToldInstruction : Type 0 where
@@ -55,7 +78,7 @@ pub record ToldInstruction : Type 0 where
   pub takes : ℕ
   pub class : Class
 
-abbrev pub toldInstruction : Judged → ToldInstruction
+unfoldable pub toldInstruction : Judged → ToldInstruction
 toldInstruction (GoodInstruction size class) = record { number = 0; position = 0; takes = suc size; class = class }
 toldInstruction (RefusedInstruction r) =
     record { number = numberOf (r .reason); position = r .position; takes = 0; class = One Plain }

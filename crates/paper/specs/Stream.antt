@@ -1,6 +1,6 @@
 -- Document 01, "What the build does" and "The numbers given back": the verdict of a stream.
 use Prim.Native.Nat.{ℕ, zero, suc, _+_}
-use mathlib.Core.Bool.{Bool, true, false, _&&_}
+use mathlib.Core.Bool.{Bool, _&&_}
 use mathlib.Core.List.{List, [], _∷_}
 use lib.Dec.{leb}
 use lib.ListN.{length, drop, getD}
@@ -14,7 +14,6 @@ use Rattle.paper.specs.declared.Version.{Version}
 use Rattle.paper.specs.declared.Named.{Named}
 use Rattle.paper.specs.declared.Named.the-variants.{Known, Unknown}
 use Rattle.paper.specs.declared.Reason.the-variants.{Length as LENGTH, Version as VERSION}
-use Rattle.paper.specs.declared.Refusal.{Refusal}
 use Rattle.paper.specs.declared.Judged.{Judged}
 use Rattle.paper.specs.declared.Judged.the-variants.{Good, Refused}
 use Rattle.paper.specs.declared.Verdict.{Verdict}

@@ -81,25 +81,25 @@ mov = 0xFFFE0200 ∷ 0x02000001 ∷ 0x800F0000 ∷ 0xA0E40000 ∷ 0x0000FFFF ∷
 
 mov-read : tells 0xFFFE0200 mov 1 ≡
     yes 4 (instruction 1 0 (destination 0 0 0xF ∷ source 2 0 0xE4 ∷ noOperand ∷ noOperand ∷ noOperand ∷ noOperand ∷ []))
-unfolding tells yes destination source instruction mov rows entryOf typedPlaces tokenAt declaration classOf tokenHead operand operands judged operandOf operandAt widthAt inOrder predicateOr arrayOf recordOf readingAt reading
+unfolding tells yes destination source instruction mov rows entryOf typedPlaces tokenAt declaration classOf tokenHead operand operands judged operandOf operandAt widthAt inOrder predicateOr arrayOf recordOf readingAt reading toldReading
 mov-read = refl
 
 -- (p0) mov r1, c2[a0.x]: the predicate is last among the tokens and in the record, and the index stands with its source
 predicated-read : tells 0xFFFE0300 (0x14000001 ∷ 0x800F0001 ∷ 0xA0E42002 ∷ 0xB0000000 ∷ 0xB0E41000 ∷ []) 0 ≡
     yes 5 (instruction 1 1 (destination 0 1 0xF ∷ indexed 2 2 0xE4 3 0 0 ∷ noOperand ∷ noOperand ∷ noOperand ∷ source 19 0 0xE4 ∷ []))
-unfolding tells yes destination source indexed instruction rows entryOf typedPlaces tokenAt declaration classOf tokenHead operand operands judged operandOf operandAt widthAt inOrder predicateOr arrayOf recordOf readingAt reading
+unfolding tells yes destination source indexed instruction rows entryOf typedPlaces tokenAt declaration classOf tokenHead operand operands judged operandOf operandAt widthAt inOrder predicateOr arrayOf recordOf readingAt reading toldReading
 predicated-read = refl
 
 -- dcl_position v0
 dcl-read : tells 0xFFFE0200 (0x0200001F ∷ 0x80000000 ∷ 0x900F0000 ∷ []) 0 ≡
     yes 3 (instruction 31 0 (rawOperand 0x80000000 ∷ destination 1 0 0xF ∷ noOperand ∷ noOperand ∷ noOperand ∷ noOperand ∷ []))
-unfolding tells yes destination instruction rows entryOf typedPlaces tokenAt declaration classOf tokenHead operand operands judged operandOf operandAt widthAt inOrder predicateOr arrayOf recordOf readingAt reading
+unfolding tells yes destination instruction rows entryOf typedPlaces tokenAt declaration classOf tokenHead operand operands judged operandOf operandAt widthAt inOrder predicateOr arrayOf recordOf readingAt reading toldReading
 dcl-read = refl
 
 comment-and-end-read :
     tells 0xFFFE0200 (0x0002FFFE ∷ 7 ∷ 8 ∷ 0x0000FFFF ∷ []) 0 ∷ tells 0xFFFE0200 (0x0002FFFE ∷ 7 ∷ 8 ∷ 0x0000FFFF ∷ []) 3 ∷ [] ≡
     yes 3 (commentRecord 2) ∷ yes 4 endRecord ∷ []
-unfolding tells yes tokenHead judged recordOf readingAt reading
+unfolding tells yes tokenHead judged recordOf readingAt reading toldReading
 comment-and-end-read = refl
 
 -- another version; a place at the end and one past it; a refusal inside an instruction
@@ -107,5 +107,5 @@ refused-read :
     tells 0xFFFE0201 mov 1 ∷ tells 0xFFFE0200 mov 5 ∷ tells 0xFFFE0200 mov 9 ∷ tells 0xFFFE0200 [] 0 ∷
     tells 0xFFFE0200 (0 ∷ 0x02000001 ∷ 0x800F4000 ∷ 0xA0E40000 ∷ []) 1 ∷ [] ≡
     no 2 0 ∷ no 5 5 ∷ no 5 5 ∷ no 5 0 ∷ no 7 2 ∷ []
-unfolding tells no mov rows entryOf typedPlaces tokenAt declaration classOf tokenHead operand operands judged recordOf readingAt reading
+unfolding tells no mov rows entryOf typedPlaces tokenAt declaration classOf tokenHead operand operands judged recordOf readingAt reading toldReading
 refused-read = refl

@@ -32,7 +32,7 @@ reading-same p q = cc
 
 -- what a reading tells is that reading's alone
 pub told-one : (r s : Reading) → toldReading r ≡ toldReading s → r ≡ s
-unfolding reading-of
+unfolding reading-of toldReading
 told-one r s e =
     let both = told-answer (r .answer) (s .answer) (r .instruction) (s .instruction) e in
     reading-same (both .0) (both .1)

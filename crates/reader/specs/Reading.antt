@@ -60,5 +60,5 @@ toldAnswer (Got next) instruction = record { number = 0; position = 0; next = ne
 toldAnswer (Refused r) instruction =
     record { number = numberOf (r .reason); position = r .position; next = 0; instruction = instruction }
 
-abbrev pub toldReading : Reading → ToldReading
+unfoldable pub toldReading : Reading → ToldReading
 toldReading r = toldAnswer (r .answer) (r .instruction)

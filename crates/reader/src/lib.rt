@@ -1,6 +1,6 @@
 // The reader: document 01, "Records". One instruction at a place of a stream, judged and read into its record.
 ghost use mathlib.Core.Path.{_≡_};
-ghost use Rattle.reader.specs.Reading.{unread, readingAt, reading};
+ghost use Rattle.reader.specs.Reading.{unread, readingAt, reading, toldReading};
 use paper::Judged;
 use paper::Named;
 use paper::Reason;
@@ -66,7 +66,7 @@ fn read_at(version: Version, tokens: &[u32], at: usize) -> Reading
 
 // The instruction at a place of these tokens, of the version that this token names: its record and the next place.
 pub fn read(version: u32, tokens: &[u32], at: usize) -> Reading
-    ensures { λ r. ⌜ r ≡ reading version (now (tokens .entry)) at ⌝ }
+    ensures { λ r. ⌜ toldReading r ≡ toldReading (reading version (now (tokens .entry)) at) ⌝ }
 {
     if MOST_TOKENS < tokens.len() {
         return refused_at(Reason::Length, 0);

@@ -6,7 +6,7 @@ use Prim.Native.Nat.{ℕ}
 use native.Mathlib.Omega.{arith}
 use lib.ListN.{take}
 use Rattle.paper.specs.Dcl.{declaration}
-use Rattle.paper.specs.Instruction.{Head as Said, broken, end, comment, dcl, operation, tokenHead, operands, judged}
+use Rattle.paper.specs.Instruction.{Head as Said, broken, end, comment, dcl, operation, tokenHead, operands}
 use Rattle.paper.specs.declared.Version.{Version}
 use Rattle.paper.specs.declared.Class.{Class}
 use Rattle.paper.specs.declared.Judged.the-variants.{Good as Lawful}

@@ -1,5 +1,6 @@
 // Instructions one after another: a stretch of plain ones, and the instruction at its end.
 ghost use mathlib.Core.Path.{_≡_};
+ghost use Rattle.paper.specs.Numbers.{toldInstruction};
 ghost use Rattle.paper.specs.Instruction.{judged};
 ghost use Rattle.stretches.specs.Stretch.{toldAt, Stretched};
 use paper::Judged;
@@ -60,7 +61,7 @@ pub fn judge_at(version: Version, tokens: &[u32], at: usize, beyond: usize) -> u
 
 // The instruction at the front of these tokens, judged.
 pub fn judge(version: Version, tokens: &[u32]) -> Judged
-    ensures { λ r. ⌜ r ≡ judged version (now (tokens .entry)) ⌝ }
+    ensures { λ r. ⌜ toldInstruction r ≡ toldInstruction (judged version (now (tokens .entry))) ⌝ }
 {
     told::judged_of(judge_at(version, tokens, 0, 0))
 }

@@ -1,5 +1,6 @@
 // What is told of an instruction, one number, read back: a yes is even, a refusal odd.
 ghost use mathlib.Core.Path.{_≡_};
+ghost use Rattle.paper.specs.Numbers.{toldInstruction};
 ghost use Rattle.told.specs.Numbered.{classBy, reasonBy, judgedFrom};
 use paper::Class;
 use paper::Closer;
@@ -52,7 +53,7 @@ fn reason_by(number: u64) -> Reason
 
 // What such a number tells.
 pub fn judged_of(told: u64) -> Judged
-    ensures { λ r. ⌜ r ≡ judgedFrom told ⌝ }
+    ensures { λ r. ⌜ toldInstruction r ≡ toldInstruction (judgedFrom told) ⌝ }
 {
     if told % 2 == 1 {
         let reason = reason_by(told / 2 % 16);

@@ -5,6 +5,7 @@ ghost use Prim.Native.Nat.{_<_};
 ghost use Rattle.paper.specs.Notation.{among};
 ghost use Rattle.versions.specs.Sets.{setOf, holds};
 ghost use Rattle.paper.specs.Versions.{named, isPixel, isThird};
+ghost use Rattle.paper.specs.Numbers.{toldNamed};
 ghost use Rattle.paper.specs.OperandTokens.{relativeSources, relativeDestinations, typeOf, freeDestinationTypes, freeSourceTypes, conditionTypes, relativeTypes};
 use paper::Named;
 use paper::Version;
@@ -28,7 +29,7 @@ const COUNTER: u32 = 15;
 const PREDICATE_REGISTER: u32 = 19;
 
 pub fn version_of(token: u32) -> Named
-    ensures { λ r. ⌜ r ≡ named token ⌝ }
+    ensures { λ r. ⌜ toldNamed r ≡ toldNamed (named token) ⌝ }
 {
     if token == 0xFFFE_0200 {
         return Named::Known(Version::V2);

@@ -4,20 +4,19 @@ use mathlib.Core.Path.{_≡_, refl}
 use mathlib.Core.Bool.{Bool, true, false}
 use mathlib.Core.List.{List, [], _∷_}
 use native.Mathlib.Omega.{arith}
-use lib.Dec.{eqb, leb}
+use lib.Dec.{leb}
 use lib.ListN.{length, take, drop, length-take, length-drop}
 use borrow.Author.Tests.{leb-true}
 use Rattle.paper.specs.Notation.{pick}
 use Rattle.paper.specs.Numbers.{refusal}
-use Rattle.paper.specs.OpcodeTable.{DCL}
-use Rattle.paper.specs.InstructionToken.{opcodeOf, statedSize, isPredicated, withPredicate, bitsLaid, commentOpcode, commentLength, commentLaid, endOpcode, endToken}
+use Rattle.paper.specs.InstructionToken.{opcodeOf}
 use Rattle.paper.specs.OperandTokens.{tokenAt, bringsRelative, leftOver, refusedOperands}
 use Rattle.paper.specs.Dcl.{declaration, declaredAt, onDeclared, usageLaid}
 use Rattle.paper.specs.OperandTokens.{typeOf}
-use Rattle.paper.specs.Instruction.{Head, broken, end, comment, dcl, operation, headOf, tokenHead, onToken, relativeToken, operand, onTaken, operands, onOperands, within, byHead, judged}
+use Rattle.paper.specs.Instruction.{Head, broken, end, comment, dcl, operation, tokenHead, onToken, relativeToken, operand, onTaken, operands, onOperands, within, byHead, judged}
 use Rattle.paper.specs.Blocks.{classOf}
 use Rattle.paper.specs.declared.Version.{Version}
-use Rattle.paper.specs.declared.Reason.the-variants.{Bits as BITS, RunOut as RUN-OUT, Operand as OPERAND}
+use Rattle.paper.specs.declared.Reason.the-variants.{RunOut as RUN-OUT, Operand as OPERAND}
 use Rattle.paper.specs.declared.Token.{Token}
 use Rattle.paper.specs.declared.Token.the-variants.{Good as good, Bad as bad}
 use Rattle.paper.specs.declared.Taken.{Taken}
@@ -29,7 +28,7 @@ use Rattle.paper.specs.declared.Class.the-variants.{One}
 use Rattle.paper.specs.declared.Single.the-variants.{Comment}
 use Rattle.paper.specs.declared.Judged.{Judged}
 use Rattle.paper.specs.declared.Judged.the-variants.{Good, Refused}
-use Rattle.paper.specs.Places.{Entry, absent, listed, entryOf, Place, relative}
+use Rattle.paper.specs.Places.{Place, relative}
 use Rattle.operands.proofs.Laws.{operand-within}
 
 -- how far a refusal lies from the instruction's first token

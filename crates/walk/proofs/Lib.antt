@@ -3,3 +3,4 @@ pub mod Bounds
 pub mod OnStream
 pub mod Telling
 pub mod Stretching
+pub mod OneToOne

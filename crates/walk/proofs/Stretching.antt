@@ -8,13 +8,14 @@ use lib.ListN.{length, drop}
 use Rattle.paper.specs.Instruction.{judged}
 use Rattle.paper.specs.declared.Version.{Version}
 use Rattle.told.specs.Numbered.{judgedNumber, judgedFrom}
-use Rattle.stretches.specs.Stretch.{toldAt, nextAt, PlainTo, here, past, Stretched}
+use Rattle.stretches.specs.Stretch.{toldAt, PlainTo, here, past, Stretched}
 use Rattle.stretches.specs.declared.Stretch.{Stretch}
 use Rattle.stretches.proofs.Stretches.{plain-judged}
 use Rattle.walk.specs.declared.State.{State}
 use Rattle.walk.specs.declared.Stepped.{Stepped}
-use Rattle.walk.specs.Steps.{stateOf, onJudged}
+use Rattle.walk.specs.Steps.{stateOf, onJudged, toldStepped}
 use Rattle.walk.specs.Stands.{Stands, stepAt}
+use Rattle.walk.proofs.OneToOne.{same-stepped}
 use Rattle.walk.proofs.Telling.{told-moves}
 use Rattle.walk.proofs.OnStream.{stands-plain}
 
@@ -55,11 +56,11 @@ module _
       pub stretch-passed : Stands v s (stateOf (place (r .at)) (state .count + r .count) (state .kinds)) × (p ≤ r .at) × (r .at < stop)
       stretch-passed = stretch-stands (stretched .leads)
 
-      pub stretch-steps : (x : Stepped) → x ≡ onJudged (judgedFrom (r .told)) (stateOf (place (r .at)) (state .count + r .count) (state .kinds)) →
+      pub stretch-steps : (x : Stepped) → toldStepped x ≡ toldStepped (onJudged (judgedFrom (r .told)) (stateOf (place (r .at)) (state .count + r .count) (state .kinds))) →
           stepAt v s (stateOf (place (r .at)) (state .count + r .count) (state .kinds)) ≡ x
       unfolding stepAt
       stretch-steps x e =
           sym
-          (e
+          (same-stepped _ _ e
           ∙ told-moves (stateOf (place (r .at)) (state .count + r .count) (state .kinds)) (r .told) (judged v (drop (place (r .at)) s))
           (stretched .is ∙ there (r .at) (stretch-passed .2)))

@@ -1,9 +1,10 @@
 -- The open blocks as one number: a digit of base 5 for each, the innermost lowest. No block has digit 0, so that 0 says that none is open.
 use Prim.Native.Nat.{ℕ, zero, suc, _+_, _*_, _/_, _%_, _^_}
-use mathlib.Core.Bool.{Bool, true, false, _||_}
+use mathlib.Core.Bool.{Bool, false, _||_}
 use mathlib.Core.List.{List, [], _∷_}
 use lib.Dec.{eqb, ltb}
 use Rattle.paper.specs.Notation.{pick}
+use Rattle.paper.specs.Numbers.{numberOf}
 use Rattle.paper.specs.Walk.{Kind, opened, pastElse, go, bad, finish}
 use Rattle.paper.specs.Walk.{Next as Said}
 use Rattle.paper.specs.declared.Class.{Class}
@@ -76,3 +77,14 @@ abbrev pub nextBy : ℕ → Class → Next
 nextBy kinds (One s) = standsBy kinds s
 nextBy kinds (Opens o) = opensBy kinds o
 nextBy kinds (Closes c) = closesBy kinds c
+
+-- what is told of it: the number of a refusal, or 0; 1 where an END finishes the stream; the open blocks of a walk that goes on
+pub record ToldNext : Type 0 where
+  pub number : ℕ
+  pub finished : ℕ
+  pub kinds : ℕ
+
+unfoldable pub toldNext : Next → ToldNext
+toldNext (Go kinds) = record { number = 0; finished = 0; kinds = kinds }
+toldNext (Bad reason) = record { number = numberOf reason; finished = 0; kinds = 0 }
+toldNext Finish = record { number = 0; finished = 1; kinds = 0 }

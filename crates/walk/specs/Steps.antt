@@ -1,7 +1,7 @@
 -- One step of the walk: an instruction is judged, and the walk's state moves behind it.
 -- Document 01, "The numbers given back": RUN-OUT, the operands, then BLOCK and DEPTH.
 use Prim.Native.Nat.{ℕ, _+_, _%_, _^_}
-use Rattle.paper.specs.Numbers.{refusal}
+use Rattle.paper.specs.Numbers.{numberOf, refusal}
 use Rattle.paper.specs.declared.Class.{Class}
 use Rattle.paper.specs.declared.Judged.{Judged}
 use Rattle.paper.specs.declared.Judged.the-variants.{Good, Refused as unfit}
@@ -33,3 +33,16 @@ onNextBy Finish state size class = Done (behindOf state size class (state .kinds
 abbrev pub onJudged : Judged → State → Stepped
 onJudged (Good size class) state = onNextBy (nextBy (state .kinds) class) state size class
 onJudged (unfit r) state = Refused (refusal (r .reason) (wrapped (state .at + r .position)))
+
+-- what is told of a step: the number of a refusal, or 0, and its position; 1 where an END finishes the stream; the state behind the instruction,
+-- which is all zero in a refusal
+pub record ToldStepped : Type 0 where
+  pub number : ℕ
+  pub position : ℕ
+  pub finished : ℕ
+  pub state : State
+
+unfoldable pub toldStepped : Stepped → ToldStepped
+toldStepped (On state) = record { number = 0; position = 0; finished = 0; state = state }
+toldStepped (Done state) = record { number = 0; position = 0; finished = 1; state = state }
+toldStepped (Refused r) = record { number = numberOf (r .reason); position = r .position; finished = 0; state = stateOf 0 0 0 }

@@ -8,8 +8,8 @@ ghost use Rattle.paper.specs.declared.Single.the-variants.{Plain};
 ghost use Rattle.paper.specs.Walk.{counts};
 ghost use Rattle.told.specs.Numbered.{judgedFrom};
 ghost use Rattle.stretches.specs.Stretch.{toldAt};
-ghost use Rattle.walk.specs.Kinds.{inLoopBy, allowedBy, standsBy, opensBy, closesBy, nextBy};
-ghost use Rattle.walk.specs.Steps.{wrapped, stateOf, behindOf, onNextBy, onJudged};
+ghost use Rattle.walk.specs.Kinds.{inLoopBy, allowedBy, standsBy, opensBy, closesBy, nextBy, toldNext};
+ghost use Rattle.walk.specs.Steps.{wrapped, stateOf, behindOf, onNextBy, onJudged, toldStepped};
 ghost use Rattle.walk.specs.declared.Stepped.the-variants.{On};
 use paper::Class;
 use paper::Closer;
@@ -104,7 +104,7 @@ fn close_in(kinds: u64, closer: Closer) -> Next
 
 // The open blocks as one number, a digit of base 5 for each, the innermost lowest: 1 LOOP, 2 REP, 3 IF, 4 IF past its ELSE.
 pub fn next_kinds(kinds: u64, class: Class) -> Next
-    ensures { λ r. ⌜ r ≡ nextBy kinds class ⌝ }
+    ensures { λ r. ⌜ toldNext r ≡ toldNext (nextBy kinds class) ⌝ }
 {
     match class {
         Class::One(single) => stand_in(kinds, single),
@@ -219,7 +219,7 @@ fn moved(at: usize, count: usize, kinds: u64, told: u64) -> Stepped
 
 // The step over an instruction of which this is told, from a state with these fields.
 pub fn step_told(at: usize, count: usize, kinds: u64, told: u64) -> Stepped
-    ensures { λ r. ⌜ r ≡ onJudged (judgedFrom told) (stateOf at count kinds) ⌝ }
+    ensures { λ r. ⌜ toldStepped r ≡ toldStepped (onJudged (judgedFrom told) (stateOf at count kinds)) ⌝ }
 {
     if is_plain(told) {
         return passed(at, count, kinds, told);
@@ -229,7 +229,7 @@ pub fn step_told(at: usize, count: usize, kinds: u64, told: u64) -> Stepped
 
 // The step over the instruction at a place of these tokens, behind which `beyond` more are there. It is at `state` of the walk.
 pub fn step_in(version: Version, state: State, tokens: &[u32], at: usize, beyond: usize) -> Stepped
-    ensures { λ r. ⌜ r ≡ onJudged (judgedFrom (toldAt version (now (tokens .entry)) beyond at)) state ⌝ }
+    ensures { λ r. ⌜ toldStepped r ≡ toldStepped (onJudged (judgedFrom (toldAt version (now (tokens .entry)) beyond at)) state) ⌝ }
 {
     let told = stretches::judge_at(version, tokens, at, beyond);
     step_told(state.at, state.count, state.kinds, told)

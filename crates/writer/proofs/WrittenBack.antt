@@ -1,6 +1,6 @@
 -- Written back: the tokens of an instruction's record, with a comment's body, are the instruction's.
 use mathlib.Core.Path.{_≡_, refl, sym, ap}
-use mathlib.Core.Bool.{Bool, true, false, not, _&&_}
+use mathlib.Core.Bool.{Bool, true, false, not}
 use mathlib.Core.List.{List, [], _∷_}
 use Prim.Native.Nat.{ℕ, zero, suc, _^_, _≤_, _<_}
 use native.Mathlib.Omega.{arith}
@@ -8,7 +8,7 @@ use lib.Dec.{eqb, leb}
 use lib.ListN.{length, take, getD}
 use lib.Seq.{getD-at, length-take-le}
 use borrow.Author.Tests.{eqb-true, leb-true}
-use Rattle.paper.specs.Notation.{pick, bits}
+use Rattle.paper.specs.Notation.{bits}
 use Rattle.paper.specs.InstructionToken.{opcodeOf, statedSize, isPredicated, withPredicate}
 use Rattle.paper.specs.Dcl.{declaration}
 use Rattle.paper.specs.Instruction.{Head, broken, end, comment, dcl, operation, tokenHead, operands, byHead, judged}

@@ -1,6 +1,6 @@
 -- The tokens of a record that is no comment's, as the code finds them: by the shape of its opcode.
 use mathlib.Core.Path.{_≡_, refl, ap, _∙_}
-use mathlib.Core.Bool.{Bool, true, false, not, _&&_}
+use mathlib.Core.Bool.{Bool, true, false}
 use mathlib.Core.List.{List, [], _∷_}
 use Prim.Native.Nat.{ℕ, _-_, _%_, _^_, _≤_}
 use native.Mathlib.Omega.{arith}
@@ -8,11 +8,10 @@ use lib.Dec.{eqb}
 use lib.ListN.{length, take, drop, getD, set}
 use borrow.Author.Tests.{eq-eqb, ne-eqb, eqb-true, eqb-false}
 use borrow.Rule.Slice.PartMut.{putMid}
-use Rattle.paper.specs.Notation.{pick}
 use Rattle.paper.specs.InstructionToken.{commentOpcode, endOpcode, endToken, withPredicate}
 use Rattle.paper.specs.declared.Version.{Version}
 use Rattle.paper.specs.Places.{Entry, absent, listed, entryOf, Place}
-use Rattle.opcodes.specs.Shape.{digits, shapeOf}
+use Rattle.opcodes.specs.Shape.{shapeOf}
 use Rattle.opcodes.specs.Places.{decoded}
 use Rattle.opcodes.proofs.Laws.{shape-absent, shape-zero, shape-places, decoded-digits, few, unpredicated, row-unpredicated}
 use Rattle.records.specs.declared.Operand.{Operand}

@@ -19,6 +19,7 @@ use Rattle.paper.specs.declared.Single.the-variants.{Comment}
 use Rattle.paper.specs.declared.Judged.the-variants.{Good as Lawful}
 use Rattle.paper.specs.declared.Verdict.the-variants.{Accepted}
 use Rattle.paper.proofs.Below.{both-right}
+use Rattle.paper.proofs.VersionTokens.{named-back}
 use Rattle.cutting.specs.Cuttings.{joined, Alone, Chunks, last, next, Cutting}
 use Rattle.cutting.proofs.AcceptedIsACutting.{accepted-is-a-cutting}
 use Rattle.cutting.proofs.OwnTokens.{within-good}
@@ -33,7 +34,6 @@ use Rattle.writing.specs.Writing.{Yielded, bodyLength, ToldWriting, told
 use Rattle.writing.specs.InOrder.{Piece, piecesOf, WritesAll, all-written, next-written}
 use Rattle.writing.proofs.Paste.{pasted-on, pasted-front, length-pasted}
 use Rattle.writing.proofs.Readings.{reads-own}
-use Rattle.paper.proofs.VersionTokens.{named-back}
 use Rattle.writing.proofs.Answers.{version-named}
 use Rattle.writing.proofs.Exactly.{one-writing}
 

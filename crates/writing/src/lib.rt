@@ -5,7 +5,6 @@ ghost use mathlib.Core.List.{[], _∷_};
 ghost use Prim.Native.Nat.{_+_, _%_, _^_, _≤_, _<_};
 ghost use lib.Dec.{eqb, leb};
 ghost use lib.ListN.{length};
-ghost use Rattle.paper.specs.Notation.{pick};
 ghost use Rattle.paper.specs.Versions.{versionToken};
 ghost use Rattle.paper.specs.Numbers.{refusal};
 ghost use Rattle.paper.specs.InstructionToken.{commentOpcode};

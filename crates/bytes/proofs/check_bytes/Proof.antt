@@ -1,6 +1,7 @@
 use native.Mathlib.Omega.{arith}
 use mathlib.Core.Path.{ap, sym, _∙_}
 use Rattle.paper.specs.Numbers.{told}
+use Rattle.paper.proofs.OneToOne.{same-named}
 use Rattle.bytes.proofs.Verdicts.{verdict-odd, verdict-short, verdict-long, verdict-named}
 use borrow.Author.Needs.{needs}
 use Rattle.bytes.proofs.check_bytes.Statement.{statement}
@@ -45,12 +46,12 @@ refused-requires-4 c κs = search needs
 returns-4 : tie.Need-returns-4
 returns-4 c =
     let named-is = verdict-named (c .before .before .before .before .before .before .before .before .before .before .args .bytes .now) (omega arith) (omega arith) (omega arith) in
-    ap told (c .walk-bytes .ensures ∙ sym (named-is ∙ rw (← (c .before .before .before .before .before .token-at .ensures), ← (c .before .before .before .before .version-of .ensures), c .before .before .named .given .1)))
+    ap told (c .walk-bytes .ensures ∙ sym (named-is ∙ rw (← (c .before .before .before .before .before .token-at .ensures), ← (same-named _ _ (c .before .before .before .before .version-of .ensures)), c .before .before .named .given .1)))
 
 returns-5 : tie.Need-returns-5
 returns-5 c =
     let named-is = verdict-named (c .before .before .before .before .before .before .before .before .before .args .bytes .now) (omega arith) (omega arith) (omega arith) in
-    ap told (c .refused4 .ensures ∙ sym (named-is ∙ rw (← (c .before .before .before .before .token-at .ensures), ← (c .before .before .before .version-of .ensures), c .before .enum-told .given .1)))
+    ap told (c .refused4 .ensures ∙ sym (named-is ∙ rw (← (c .before .before .before .before .token-at .ensures), ← (same-named _ _ (c .before .before .before .version-of .ensures)), c .before .enum-told .given .1)))
 
 pub check-bytes-spec : {M : Type 1} → statement M
 check-bytes-spec =

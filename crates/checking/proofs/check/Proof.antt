@@ -2,6 +2,7 @@ use lib.ListN.{length}
 use mathlib.Core.Path.{ap, sym, _∙_}
 use native.Mathlib.Omega.{arith}
 use Rattle.paper.specs.Numbers.{told}
+use Rattle.paper.proofs.OneToOne.{same-named}
 use Rattle.checking.proofs.Whole.{laid-two, verdict-length, verdict-version, verdict-walked}
 use borrow.Author.Needs.{needs}
 use Rattle.checking.proofs.check.Statement.{statement}
@@ -32,14 +33,14 @@ returns c =
     let length-test = c .before .before .before .before .before .before in
     ap told (c .check-behind .ensures
     ∙ sym (verdict-walked (length-test .before .before .args .tokens .now) _ (length-test .if1 .taken)
-    (sym (c .before .before .before .before .version-of .ensures) ∙ c .before .before .named .given .1)))
+    (sym (same-named _ _ (c .before .before .before .before .version-of .ensures)) ∙ c .before .before .named .given .1)))
 
 returns-2 : tie.Need-returns-2
 returns-2 c =
     let length-test = c .before .before .before .before .before in
     ap told (c .refused .ensures
     ∙ sym (verdict-version (length-test .before .before .args .tokens .now) (length-test .if1 .taken)
-    (sym (c .before .before .before .version-of .ensures) ∙ c .before .enum-told .given .1)))
+    (sym (same-named _ _ (c .before .before .before .version-of .ensures)) ∙ c .before .enum-told .given .1)))
 
 refused-requires-2 : tie.Need-refused-requires-2
 refused-requires-2 c κs = search needs

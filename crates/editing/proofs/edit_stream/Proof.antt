@@ -1,5 +1,6 @@
 use mathlib.Core.Path.{sym, _∙_}
 use native.Mathlib.Omega.{arith}
+use Rattle.paper.proofs.OneToOne.{same-named}
 use Rattle.editing.proofs.Answers.{too-few, too-many, by-version}
 use borrow.Author.Needs.{needs}
 use Rattle.editing.proofs.edit_stream.Statement.{statement}
@@ -43,13 +44,13 @@ returns-3 : tie.Need-returns-3
 returns-3 c =
     let g = c .before .before .before .before .before .before .before .before .before .before .args in
     c .edit-known .ensures
-    ∙ sym (by-version (g .room) (g .old .now) (g .i) (g .j) (g .run .now) (omega arith) (omega arith) ∙ rw (← (c .before .before .before .before .version-of .ensures), c .before .before .named .given .1))
+    ∙ sym (by-version (g .room) (g .old .now) (g .i) (g .j) (g .run .now) (omega arith) (omega arith) ∙ rw (← (same-named _ _ (c .before .before .before .before .version-of .ensures)), c .before .before .named .given .1))
 
 returns-4 : tie.Need-returns-4
 returns-4 c =
     let g = c .before .before .before .before .before .before .before .before .before .args in
     c .refused3 .ensures
-    ∙ sym (by-version (g .room) (g .old .now) (g .i) (g .j) (g .run .now) (omega arith) (omega arith) ∙ rw (← (c .before .before .before .version-of .ensures), c .before .enum-told .given .1))
+    ∙ sym (by-version (g .room) (g .old .now) (g .i) (g .j) (g .run .now) (omega arith) (omega arith) ∙ rw (← (same-named _ _ (c .before .before .before .version-of .ensures)), c .before .enum-told .given .1))
 
 pub edit-stream-spec : {M : Type 1} → statement M
 edit-stream-spec =

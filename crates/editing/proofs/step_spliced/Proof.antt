@@ -1,6 +1,7 @@
 use mathlib.Core.Path.{refl, sym, _∙_}
 use native.Mathlib.Omega.{arith}
 use lib.ListN.{length-take}
+use Rattle.walk.proofs.OneToOne.{same-stepped}
 use Rattle.editing.proofs.Tokens.{step-in-old, step-in-run, step-gathered}
 use borrow.Author.Needs.{needs}
 use Rattle.editing.proofs.step_spliced.Statement.{statement}
@@ -21,7 +22,7 @@ step-in-requires c κs = search needs
 returns : tie.Need-returns
 returns c =
     let g = c .before .before .before .before .before .before .args in
-    c .step-in .ensures
+    same-stepped _ _ (c .step-in .ensures)
     ∙ step-in-old (g .run .now) (g .old .now) (g .j) (g .i) (omega arith) (g .version) (g .state) (omega arith) (omega arith)
 
 sub-own : tie.Need-sub-own
@@ -36,7 +37,7 @@ step-in-requires-2 c κs = search needs
 returns-2 : tie.Need-returns-2
 returns-2 c =
     let g = c .before .before .before .before .before .before .before .args in
-    c .step-in2 .ensures
+    same-stepped _ _ (c .step-in2 .ensures)
     ∙ step-in-run (g .run .now) (g .old .now) (g .j) (g .i) (omega arith) (g .version) (g .state) (omega arith) (omega arith)
 
 add-left : tie.Need-add-left
@@ -69,7 +70,7 @@ returns-3 : tie.Need-returns-3
 returns-3 c =
     let k = c .before .before .before .before .before .before in
     let g = k .before .before .before .before .before .before .before .args in
-    c .step-in3 .ensures
+    same-stepped _ _ (c .step-in3 .ensures)
     ∙ step-gathered (g .run .now) (g .old .now) (g .j) (g .i) (omega arith) (g .version) (g .state) (omega arith) _ (k .shown-of .result) _ (omega arith) refl (k .shown-of .ensures)
     (c .before .before .before .before .gather .ensures)
 

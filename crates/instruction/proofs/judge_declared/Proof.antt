@@ -1,5 +1,6 @@
 use mathlib.Core.Path.{refl, sym, _∙_}
 use native.Mathlib.Omega.{arith}
+use Rattle.paper.proofs.OneToOne.{same-operands}
 use Rattle.instruction.proofs.Judging.{declared-near}
 use borrow.Author.Needs.{needs}
 use Rattle.instruction.proofs.judge_declared.Statement.{statement}
@@ -16,7 +17,7 @@ enum-known-operands c = search needs
 
 mul-result : tie.Need-mul-result
 mul-result c =
-    let near = declared-near _ _ _ (sym (c .before .before .before .judge-declaration .ensures) ∙ c .before .operands .given .1) in omega arith
+    let near = declared-near _ _ _ (sym (same-operands _ _ (c .before .before .before .judge-declaration .ensures)) ∙ c .before .operands .given .1) in omega arith
 
 number-of-requires : tie.Need-number-of-requires
 number-of-requires c κs = search needs
@@ -32,13 +33,13 @@ add-result c = search needs
 
 add-result-2 : tie.Need-add-result-2
 add-result-2 c =
-    let near = declared-near _ _ _ (sym (c .before .before .before .before .judge-declaration .ensures) ∙ c .before .before .operands .given .1) in omega arith
+    let near = declared-near _ _ _ (sym (same-operands _ _ (c .before .before .before .before .judge-declaration .ensures)) ∙ c .before .before .operands .given .1) in omega arith
 
 returns : tie.Need-returns
-returns c = rw (← (c .before .before .judge-declaration .ensures), c .enum-told .given .1) refl
+returns c = rw (← (same-operands _ _ (c .before .before .judge-declaration .ensures)), c .enum-told .given .1) refl
 
 returns-2 : tie.Need-returns-2
-returns-2 c = rw (← (c .before .before .before .before .judge-declaration .ensures), c .before .before .operands .given .1, c .number-of .ensures) refl
+returns-2 c = rw (← (same-operands _ _ (c .before .before .before .before .judge-declaration .ensures)), c .before .before .operands .given .1, c .number-of .ensures) refl
 
 pub judge-declared-spec : {M : Type 1} → statement M
 judge-declared-spec =

@@ -1,4 +1,4 @@
-use mathlib.Core.Path.{refl, sym, _∙_}
+use mathlib.Core.Path.{refl, sym}
 use borrow.Author.Needs.{needs}
 use Rattle.paper.specs.Places.{relative}
 use Rattle.layout.proofs.Laws.{unfree-order}

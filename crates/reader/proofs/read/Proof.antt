@@ -1,6 +1,7 @@
-use mathlib.Core.Path.{sym, _∙_}
+use mathlib.Core.Path.{ap, sym, _∙_}
 use borrow.Author.Tests.{le-leb, lt-leb}
-use Rattle.reader.specs.Reading.{reading}
+use Rattle.paper.proofs.OneToOne.{same-named}
+use Rattle.reader.specs.Reading.{reading, toldReading}
 use borrow.Author.Needs.{needs}
 use Rattle.reader.proofs.read.Statement.{statement}
 use Rattle.reader.proofs.read.Tie as tie
@@ -10,7 +11,7 @@ refused-at-requires c κs = search needs
 
 returns : tie.Need-returns
 unfolding reading
-returns c = rw (lt-leb _ _ (c .before .if1 .taken)) (c .refused-at .ensures)
+returns c = rw (lt-leb _ _ (c .before .if1 .taken)) (ap toldReading (c .refused-at .ensures))
 
 version-of-requires : tie.Need-version-of-requires
 version-of-requires c κs = search needs
@@ -30,14 +31,14 @@ refused-at-requires-2 c κs = search needs
 returns-2 : tie.Need-returns-2
 unfolding reading
 returns-2 c =
-    rw (le-leb _ _ (c .before .before .before .before .before .if1 .left), sym (c .before .before .before .before .version-of .ensures) ∙ c .before .before .named .given .1)
-    (c .read-at .ensures)
+    rw (le-leb _ _ (c .before .before .before .before .before .if1 .left), sym (same-named _ _ (c .before .before .before .before .version-of .ensures)) ∙ c .before .before .named .given .1)
+    (ap toldReading (c .read-at .ensures))
 
 returns-3 : tie.Need-returns-3
 unfolding reading
 returns-3 c =
-    rw (le-leb _ _ (c .before .before .before .before .if1 .left), sym (c .before .before .before .version-of .ensures) ∙ c .before .enum-told .given .1)
-    (c .refused-at2 .ensures)
+    rw (le-leb _ _ (c .before .before .before .before .if1 .left), sym (same-named _ _ (c .before .before .before .version-of .ensures)) ∙ c .before .enum-told .given .1)
+    (ap toldReading (c .refused-at2 .ensures))
 
 pub read-spec : {M : Type 1} → statement M
 read-spec =

@@ -2,6 +2,8 @@ use mathlib.Core.Path.{_≡_, sym, _∙_}
 use native.Mathlib.Omega.{arith}
 use borrow.Author.Tests.{le-ltb}
 use Rattle.paper.specs.declared.Judged.{Judged}
+use Rattle.paper.proofs.OneToOne.{same-instruction}
+use Rattle.instruction_token.proofs.OneToOne.{same-head}
 use Rattle.reader.specs.Reading.{readingAt}
 use Rattle.reader.proofs.Steps.{Reads, runs-out, reads-judged}
 use borrow.Author.Needs.{needs}
@@ -18,7 +20,7 @@ reads a j e =
     let g = start a .args in
     let h = a .before .before .before .before .read-head in
     let k = a .before .before .before .claim-of in
-    reads-judged (g .version) (g .tokens .now) (g .at) (h .result) (k .result) (a .before .before .before .before .before .before .if1 .left) (h .ensures) (k .ensures) (a .before .before .if2 .left) j (sym (a .judge .ensures) ∙ e)
+    reads-judged (g .version) (g .tokens .now) (g .at) (h .result) (k .result) (a .before .before .before .before .before .before .if1 .left) (same-head _ _ (h .ensures)) (k .ensures) (a .before .before .if2 .left) j (sym (same-instruction _ _ (a .judge .ensures)) ∙ e)
 
 refused-at-requires : tie.Need-refused-at-requires
 refused-at-requires c κs = search needs
@@ -54,7 +56,7 @@ returns-2 c =
     let h = c .before .before .before .read-head in
     let k = c .before .before .claim-of in
     c .refused-at2 .ensures
-    ∙ sym (runs-out (g .version) (g .tokens .now) (g .at) (h .result) (k .result) (c .before .before .before .before .before .if1 .left) (h .ensures) (k .ensures) (c .before .if2 .taken))
+    ∙ sym (runs-out (g .version) (g .tokens .now) (g .at) (h .result) (k .result) (c .before .before .before .before .before .if1 .left) (same-head _ _ (h .ensures)) (k .ensures) (c .before .if2 .taken))
 
 add-end : tie.Need-add-end
 add-end c = search needs

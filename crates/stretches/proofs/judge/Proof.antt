@@ -1,4 +1,5 @@
 use mathlib.Core.Path.{ap, _∙_}
+use Rattle.paper.specs.Numbers.{toldInstruction}
 use Rattle.paper.specs.Instruction.{judged}
 use Rattle.told.specs.Numbered.{judgedFrom}
 use Rattle.told.proofs.Numbers.{judged-back}
@@ -17,8 +18,9 @@ returns : tie.Need-returns
 returns c =
     let g = c .before .before .before .args in
     c .judged-of .ensures
-    ∙ ap judgedFrom (c .before .judge-at .ensures ∙ told-whole (g .version) (g .tokens .now) 0)
-    ∙ judged-back (judged (g .version) (g .tokens .now))
+    ∙ ap toldInstruction
+    (ap judgedFrom (c .before .judge-at .ensures ∙ told-whole (g .version) (g .tokens .now) 0)
+    ∙ judged-back (judged (g .version) (g .tokens .now)))
 
 pub judge-spec : {M : Type 1} → statement M
 judge-spec = tie.close (tie.spec judge-at-requires judged-of-requires returns)

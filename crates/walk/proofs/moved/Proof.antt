@@ -1,4 +1,4 @@
-use mathlib.Core.Path.{sym, _∙_}
+use Rattle.paper.proofs.OneToOne.{same-instruction}
 use borrow.Author.Needs.{needs}
 use Rattle.walk.proofs.moved.Statement.{statement}
 use Rattle.walk.proofs.moved.Tie as tie
@@ -22,10 +22,10 @@ refused-requires : tie.Need-refused-requires
 refused-requires c κs = search needs
 
 returns : tie.Need-returns
-returns c = rw (← (c .before .before .before .before .judged-of .ensures), c .before .before .judged .given .1) (c .nested .ensures)
+returns c = rw (← (same-instruction _ _ (c .before .before .before .before .judged-of .ensures)), c .before .before .judged .given .1) (c .nested .ensures)
 
 returns-2 : tie.Need-returns-2
-returns-2 c = rw (← (c .before .before .before .before .before .judged-of .ensures), c .before .before .before .judged2 .given .1, ← (c .before .wrapping-add-usize .ensures)) (c .refused .ensures)
+returns-2 c = rw (← (same-instruction _ _ (c .before .before .before .before .before .judged-of .ensures)), c .before .before .before .judged2 .given .1, ← (c .before .wrapping-add-usize .ensures)) (c .refused .ensures)
 
 pub moved-spec : {M : Type 1} → statement M
 moved-spec =

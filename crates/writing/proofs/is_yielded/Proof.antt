@@ -1,4 +1,4 @@
-use mathlib.Core.Path.{sym}
+use Rattle.reader.proofs.Laws.{told-one}
 use borrow.Author.Needs.{needs}
 use Rattle.writing.proofs.is_yielded.Statement.{statement}
 use Rattle.writing.proofs.is_yielded.Tie as tie
@@ -16,10 +16,10 @@ enum-told-2 : tie.Need-enum-told-2
 enum-told-2 c = search needs
 
 returns : tie.Need-returns
-returns c = rw (sym (c .before .before .before .before .read .ensures), c .before .enum-told .given .1) (c .same-record .ensures)
+returns c = rw (← (told-one _ _ (c .before .before .before .before .read .ensures)), c .before .enum-told .given .1) (c .same-record .ensures)
 
 returns-2 : tie.Need-returns-2
-returns-2 c = rw (sym (c .before .before .before .read .ensures), c .enum-told2 .given .1)
+returns-2 c = rw (← (told-one _ _ (c .before .before .before .read .ensures)), c .enum-told2 .given .1)
 
 pub is-yielded-spec : {M : Type 1} → statement M
 is-yielded-spec =

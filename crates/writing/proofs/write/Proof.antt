@@ -1,4 +1,5 @@
 use mathlib.Core.Path.{sym, _∙_}
+use Rattle.paper.proofs.OneToOne.{same-named}
 use Rattle.writing.specs.Writing.{unnamed}
 use Rattle.writing.proofs.Answers.{version-named}
 use Rattle.writing.proofs.Exactly.{known-writes}
@@ -14,7 +15,7 @@ enum-known-named c = search needs
 
 write-known-requires : tie.Need-write-known-requires
 write-known-requires c κs = let s = c .before .before .before .before .before .before .before in
-    version-named (s .args .version) _ (sym (c .before .before .before .before .version-of .ensures) ∙ c .before .before .named .given .1)
+    version-named (s .args .version) _ (sym (same-named _ _ (c .before .before .before .before .version-of .ensures)) ∙ c .before .before .named .given .1)
 
 enum-told : tie.Need-enum-told
 enum-told c = search needs
@@ -29,13 +30,13 @@ returns : tie.Need-returns
 returns c =
     let s = c .before .before .before .before .before .before .before .before .before .before in
     let g = s .args in
-    let n = sym (c .before .before .before .before .before .before .before .version-of .ensures) ∙ c .before .before .before .before .before .named .given .1 in
+    let n = sym (same-named _ _ (c .before .before .before .before .before .before .before .version-of .ensures)) ∙ c .before .before .before .before .before .named .given .1 in
     rw (c .before .before .write-known .ensures .0, c .before .before .write-known .ensures .1)
     (known-writes (g .version) (g .instruction) (g .body .now) (g .buffer .now) (g .at) _ n)
 
 returns-2 : tie.Need-returns-2
 returns-2 c =
-    let n = sym (c .before .before .before .version-of .ensures) ∙ c .before .enum-told .given .1 in
+    let n = sym (same-named _ _ (c .before .before .before .version-of .ensures)) ∙ c .before .enum-told .given .1 in
     rw (c .refused .ensures) (unnamed n)
 
 pub write-spec : {M : Type 1} → statement M
