@@ -108,7 +108,7 @@ same-instruction (RefusedInstruction a) (RefusedInstruction b) e =
     ap RefusedInstruction (same-refusal a b (ap (λ (t : ToldInstruction). t .number) e) (ap (λ (t : ToldInstruction). t .position) e))
 
 pub same-verdict : (a b : Verdict) → told a ≡ told b → a ≡ b
-same-verdict (Accepted n) (Accepted m) e = ap Accepted (ap (λ (t : ToldVerdict). t .count) e)
+same-verdict (Accepted n) (Accepted m) e = ap Accepted (ap (λ (t : ToldVerdict). t .instructions) e)
 same-verdict (Accepted n) (Refused b) e = absurd (no-reason-zero (b .reason) (ap (λ (t : ToldVerdict). t .number) e))
 same-verdict (Refused a) (Accepted m) e = absurd (no-reason-zero (a .reason) (sym (ap (λ (t : ToldVerdict). t .number) e)))
 same-verdict (Refused a) (Refused b) e =

@@ -37,16 +37,16 @@ numberOf RECORD = 14
 abbrev pub refusal : Reason → ℕ → Refusal
 refusal reason position = record { reason = reason; position = position }
 
--- what a check tells: a number, a position, and of a yes the count of instructions
+-- what a check tells: a number, a position, and of a yes the number of instructions
 pub record ToldVerdict : Type 0 where
   pub number : ℕ
   pub position : ℕ
-  pub count : ℕ
+  pub instructions : ℕ
 
--- a yes has number 0 and position 0, a refusal has count 0
+-- a yes has number 0 and position 0, a refusal tells of no instructions
 abbrev pub told : Verdict → ToldVerdict
-told (Accepted n) = record { number = 0; position = 0; count = n }
-told (Refused r) = record { number = numberOf (r .reason); position = r .position; count = 0 }
+told (Accepted n) = record { number = 0; position = 0; instructions = n }
+told (Refused r) = record { number = numberOf (r .reason); position = r .position; instructions = 0 }
 
 -- what is told of a version: a yes has number 0 and gives the first token that names the version; a token that names none is VERSION
 pub record ToldNamed : Type 0 where

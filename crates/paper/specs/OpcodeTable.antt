@@ -18,7 +18,7 @@ pub record Row : Type 0 where
 abbrev pub row : List ℕ → List Letter → List Version → Row
 row opcodes operands allowed = record { opcodes = opcodes; operands = operands; allowed = allowed }
 
--- each row of the paper above its own; SINCOS has one for each of its forms
+-- each row of the paper above its own, "all" being the list of versions; SINCOS has one for each of its forms
 unfoldable pub rows : List Row
 rows =
     -- "0 NOP"

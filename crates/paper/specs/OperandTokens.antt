@@ -43,6 +43,7 @@ relativeDestinations V3 = true
 relativeDestinations P2 = false
 relativeDestinations P3 = false
 
+-- the "places called free"
 abbrev pub isFree : Place → Bool
 isFree raw = false
 isFree usage = false
@@ -129,8 +130,8 @@ abbrev pub predicateTypes : List ℕ
 predicateTypes = 19 ∷ []
 
 abbrev pub typesOr : Types → List ℕ → List ℕ
-typesOr free all = all
-typesOr (only types) all = types
+typesOr free others = others
+typesOr (only types) others = types
 
 -- DCL's types are said in its section
 abbrev pub typed : Version → Place → ℕ → Bool

@@ -33,7 +33,7 @@ abbrev answer : ℕ → ℕ → ℕ → ℕ → Answer
 answer number position value joined = record { number = number; position = position; value = value; joined = joined }
 
 abbrev ofCheck : ToldVerdict → Answer
-ofCheck told = answer (told .number) (told .position) (told .count) 0
+ofCheck told = answer (told .number) (told .position) (told .instructions) 0
 
 abbrev ofEdit : ToldEdit → Answer
 ofEdit told = answer (told .number) (told .position) (told .tokens) (told .joined)
