@@ -22,54 +22,32 @@ yes next instruction = record { number = 0; position = 0; next = next; instructi
 no : ℕ → ℕ → ToldReading
 no number position = record { number = number; position = position; next = 0; instruction = noRecord }
 
--- a register with a mask, with a swizzle, and with a swizzle and a relative register
-destination : ℕ → ℕ → ℕ → Operand
-destination kind number mask =
+-- a register, and the register that it is relative to
+abbrev register : ℕ → ℕ → ℕ → ℕ → ℕ → ℕ → ℕ → ℕ → Operand
+register kind number mask swizzle relative by-kind by-number by-swizzle =
     record {
       number = number;
       kind = kind;
       mask = mask;
-      swizzle = 0;
-      modifier = 0;
-      result = 0;
-      relative = 0;
-      «relative_number» = 0;
-      «relative_kind» = 0;
-      «relative_swizzle» = 0;
-      raw = 0;
-    }
-
-source : ℕ → ℕ → ℕ → Operand
-source kind number swizzle =
-    record {
-      number = number;
-      kind = kind;
-      mask = 0;
       swizzle = swizzle;
       modifier = 0;
       result = 0;
-      relative = 0;
-      «relative_number» = 0;
-      «relative_kind» = 0;
-      «relative_swizzle» = 0;
-      raw = 0;
-    }
-
-indexed : ℕ → ℕ → ℕ → ℕ → ℕ → ℕ → Operand
-indexed kind number swizzle by-kind by-number by-swizzle =
-    record {
-      number = number;
-      kind = kind;
-      mask = 0;
-      swizzle = swizzle;
-      modifier = 0;
-      result = 0;
-      relative = 1;
+      relative = relative;
       «relative_number» = by-number;
       «relative_kind» = by-kind;
       «relative_swizzle» = by-swizzle;
       raw = 0;
     }
+
+-- with a mask, with a swizzle, and with a swizzle and a relative register
+destination : ℕ → ℕ → ℕ → Operand
+destination kind number mask = register kind number mask 0 0 0 0 0
+
+source : ℕ → ℕ → ℕ → Operand
+source kind number swizzle = register kind number 0 swizzle 0 0 0 0
+
+indexed : ℕ → ℕ → ℕ → ℕ → ℕ → ℕ → Operand
+indexed kind number swizzle by-kind by-number by-swizzle = register kind number 0 swizzle 1 by-kind by-number by-swizzle
 
 instruction : ℕ → ℕ → List Operand → Record
 instruction opcode predicated operands =
