@@ -29,7 +29,7 @@ use Rattle.blocks.proofs.Refused.{open-append, begins-none}
 use Rattle.cutting.specs.Cuttings.{joined, Chunks, last, next, Cutting, LawfulStream}
 use Rattle.cutting.proofs.OwnTokens.{apart}
 use Rattle.cutting.proofs.AcceptedIsACutting.{accepted-is-a-cutting}
-use Rattle.checking.proofs.AcceptedIsGrammar.{accepted-is-grammar}
+use Rattle.checker.proofs.AcceptedIsGrammar.{accepted-is-grammar}
 use Rattle.edit.specs.Boundaries.{standingAt, isBoundary}
 use Rattle.edit.proofs.Standing.{Comes, stays, passes, ahead, standing-comes, reached-standing}
 use Rattle.edit.proofs.SameBlocks.{boundary}

@@ -27,12 +27,12 @@ use Rattle.cutting.proofs.EndToken.{ends-by-token}
 use Rattle.records.specs.declared.Record.{Record}
 use Rattle.records.specs.Record.{endRecord, recordOn, recordOf}
 use Rattle.records.proofs.Heads.{is-end, is-comment, is-dcl, is-operation}
-use Rattle.records.proofs.Laws.{end-record}
+use Rattle.records.proofs.OwnRecord.{end-record}
 use Rattle.listing.specs.Listing.{recordsOf}
 use Rattle.listing.proofs.ChunkRead.{behind, read-here}
-use Rattle.writer.specs.Tokens.{bodyOn, commentBody}
-use Rattle.writing.specs.Writing.{bodyLength}
-use Rattle.writing.specs.InOrder.{Piece, piecesOf}
+use Rattle.record_tokens.specs.Tokens.{bodyOn, commentBody}
+use Rattle.writer.specs.Writing.{bodyLength}
+use Rattle.writer.specs.InOrder.{Piece, piecesOf}
 use Rattle.demands.specs.Reading.{Given, givenAt, ReadUp, ends, goes, placesRead, recordsIn, piecesIn, lastPlace, boundariesOf}
 
 -- a lawful chunk's record is END's exactly if the chunk is END

@@ -22,15 +22,15 @@ use Rattle.paper.specs.declared.Judged.{Judged}
 use Rattle.paper.specs.declared.Judged.the-variants.{Good, Refused as Unlawful}
 use Rattle.paper.specs.declared.Verdict.{Verdict}
 use Rattle.paper.specs.declared.Verdict.the-variants.{Accepted, Refused}
-use Rattle.bytes.specs.Bytes.{tokensIn, bytesVerdict}
-use Rattle.bytes.proofs.Tokens.{tokens-length}
-use Rattle.bytes.proofs.Verdicts.{quarter}
+use Rattle.byte_checker.specs.Bytes.{tokensIn, bytesVerdict}
+use Rattle.byte_checker.proofs.Tokens.{tokens-length}
+use Rattle.byte_checker.proofs.Verdicts.{quarter}
 use Rattle.records.specs.declared.Record.{Record}
 use Rattle.records.specs.Record.{recordOf}
 use Rattle.reader.specs.declared.Answer.{Answer as Answered}
 use Rattle.reader.specs.declared.Answer.the-variants.{Got, Refused as Unread}
 use Rattle.reader.specs.Reading.{unread, readJudged, readingAt, onVersion, reading}
-use Rattle.writing.specs.Writing.{ToldWriting, Writes, unnamed, unwritable, cramped, written}
+use Rattle.writer.specs.Writing.{ToldWriting, Writes, unnamed, unwritable, cramped, written}
 use Rattle.edit.specs.declared.Edited.{Edited}
 use Rattle.edit.specs.declared.Edited.the-variants.{Joined, Accepted as Edited-in-full, Refused as Unedited}
 use Rattle.edit.specs.Edit.{splice, newLength, placed, fits, meetsAtEnd, onVerdict, spliced, editRefused, editNamed, edited, editedIn, bufferAfter as editedBuffer}

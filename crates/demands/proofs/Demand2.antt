@@ -16,11 +16,11 @@ use Rattle.cutting.proofs.SizesCut.{sizes-cut}
 use Rattle.cutting.proofs.OperandsCut.{operands-cut}
 use Rattle.listing.specs.Listing.{counted}
 use Rattle.listing.proofs.RecordsCounted.{records-counted}
-use Rattle.writer.specs.Tokens.{Words}
-use Rattle.writer.proofs.Operands.{words-drop}
-use Rattle.writing.proofs.Answers.{version-named}
-use Rattle.writing.proofs.StreamWrittenBack.{chunks-written-back, one-way}
-use Rattle.writing.proofs.ReadsBack.{reads-back}
+use Rattle.record_tokens.specs.Tokens.{Words}
+use Rattle.record_tokens.proofs.Operands.{words-drop}
+use Rattle.writer.proofs.Answers.{version-named}
+use Rattle.writer.proofs.StreamWrittenBack.{chunks-written-back, one-way}
+use Rattle.writer.proofs.ReadsBack.{reads-back}
 use Rattle.demands.specs.Reading.{Given}
 use Rattle.demands.specs.Demand2.{CutOneWay, ReadAsCut, WrittenBack, Demand2}
 use Rattle.demands.proofs.OneReading.{one-reading}

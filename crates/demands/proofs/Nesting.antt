@@ -27,7 +27,7 @@ use Rattle.blocks.proofs.Cutting.{cut-at}
 use Rattle.blocks.proofs.Refused.{open-append, begins-open, begins-none, step-reason}
 use Rattle.walk.proofs.OpenBlocks.{step-few}
 use Rattle.cutting.proofs.OwnTokens.{apart}
-use Rattle.checking.proofs.Whole.{verdict-walked}
+use Rattle.checker.proofs.Whole.{verdict-walked}
 use Rattle.edit.proofs.Standing.{Comes, stays, passes}
 use Rattle.demands.specs.Nesting.{GoodRow, standing, next, opens, BreaksAt, blocksOpened, blocksClosed, Nesting}
 use Rattle.demands.proofs.BlocksCounted.{step-count, deep-enough}

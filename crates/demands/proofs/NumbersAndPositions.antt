@@ -21,7 +21,7 @@ use Rattle.paper.specs.declared.Verdict.the-variants.{Refused}
 use Rattle.blocks.specs.Begins.{nestingReason}
 use Rattle.blocks.proofs.Refused.{step-reason}
 use Rattle.cutting.proofs.OwnTokens.{apart}
-use Rattle.checking.proofs.Within.{judged-within}
+use Rattle.checker.proofs.Within.{judged-within}
 use Rattle.demands.specs.Demand1.{readNumbers, checkNumbers, atStart, Numbered}
 use Rattle.demands.proofs.InstructionReasons.{instruction-reason}
 use Rattle.demands.proofs.WhereRefused.{good-inside, Refusing, runs-out, unlawful, breaks, trails, StreamRefused, for-length, for-version, in-walk, stream-refused}

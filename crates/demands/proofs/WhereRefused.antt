@@ -29,7 +29,7 @@ use Rattle.blocks.proofs.Refused.{none-begins-refused}
 use Rattle.blocks.specs.Nesting.{nesting, countOf}
 use Rattle.blocks.proofs.Counting.{walked-nesting}
 use Rattle.cutting.proofs.OwnTokens.{apart, good-within}
-use Rattle.checking.proofs.Whole.{laid-two, verdict-length, verdict-version, verdict-walked}
+use Rattle.checker.proofs.Whole.{laid-two, verdict-length, verdict-version, verdict-walked}
 use Rattle.edit.proofs.Standing.{Comes, stays, passes}
 
 -- a good instruction stands before the token count and ends at it or before

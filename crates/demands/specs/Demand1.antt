@@ -11,10 +11,10 @@ use mathlib.Core.List.{List, [], _∷_, _++_}
 use lib.ListN.{length, take}
 use Rattle.paper.specs.Notation.{among}
 use Rattle.paper.specs.Stream.{verdict}
-use Rattle.bytes.specs.Bytes.{bytesVerdict}
+use Rattle.byte_checker.specs.Bytes.{bytesVerdict}
 use Rattle.records.specs.declared.Record.{Record}
 use Rattle.reader.specs.Reading.{reading}
-use Rattle.writing.specs.Writing.{Writes}
+use Rattle.writer.specs.Writing.{Writes}
 use Rattle.edit.specs.Edit.{splice, editedIn, bufferAfter as editedBuffer}
 use Rattle.santubeli.specs.declared.Answer.{Answer}
 use Rattle.santubeli.specs.declared.ReadAnswer.{ReadAnswer}

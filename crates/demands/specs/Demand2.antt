@@ -19,11 +19,11 @@ use Rattle.cutting.specs.ByOperands.{byOperands}
 use Rattle.records.specs.declared.Record.{Record}
 use Rattle.reader.specs.Reading.{got, reading}
 use Rattle.listing.specs.Listing.{recordsOf, counted}
-use Rattle.writer.specs.Tokens.{Words}
-use Rattle.writing.specs.declared.Written.the-variants.{Wrote}
-use Rattle.writing.specs.Buffer.{pasted}
-use Rattle.writing.specs.Writing.{toldWriting, Writes}
-use Rattle.writing.specs.InOrder.{WritesAll}
+use Rattle.record_tokens.specs.Tokens.{Words}
+use Rattle.writer.specs.declared.Written.the-variants.{Wrote}
+use Rattle.writer.specs.Buffer.{pasted}
+use Rattle.writer.specs.Writing.{toldWriting, Writes}
+use Rattle.writer.specs.InOrder.{WritesAll}
 use Rattle.demands.specs.Reading.{Given, ReadUp, placesRead, recordsIn, piecesIn, lastPlace, boundariesOf}
 
 -- "There is then one way to cut it"

@@ -9,8 +9,8 @@ use Rattle.paper.specs.Notation.{among}
 use Rattle.records.specs.declared.Record.{Record}
 use Rattle.records.specs.Record.{endRecord}
 use Rattle.reader.specs.Reading.{got, reading}
-use Rattle.writing.specs.Writing.{bodyLength}
-use Rattle.writing.specs.InOrder.{Piece}
+use Rattle.writer.specs.Writing.{bodyLength}
+use Rattle.writer.specs.InOrder.{Piece}
 
 -- an instruction as it was read: its place, its record, and the body to be lent when the record is written
 pub record Given : Type 0 where

@@ -31,7 +31,7 @@ use Rattle.paper.specs.declared.Reason.the-variants.{Opcode as OPCODE, Bits as 
 use Rattle.paper.specs.Places.{Entry, absent, listed, entryOf}
 use Rattle.opcodes.specs.Classes.{classNumber}
 use Rattle.opcodes.specs.Shape.{shapeOf}
-use Rattle.opcodes.proofs.Laws.{shape-absent, shape-class}
+use Rattle.opcodes.proofs.Shapes.{shape-absent, shape-class}
 use Rattle.opcodes.proofs.Table.{beyond}
 use Rattle.instruction_token.specs.declared.Head.{Head}
 use Rattle.instruction_token.specs.declared.Head.the-variants.{Refused, End, Comment, Declaration, Operation}

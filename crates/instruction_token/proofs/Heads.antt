@@ -16,7 +16,7 @@ use Rattle.paper.specs.Instruction.{Head as Said, broken, end, comment, dcl, op
 use Rattle.paper.specs.declared.Version.{Version}
 use Rattle.opcodes.specs.Places.{numberBy, decoded}
 use Rattle.opcodes.specs.Shape.{digits, shapeOf}
-use Rattle.opcodes.proofs.Laws.{shape-absent, shape-zero, shape-places, shape-step, shape-rule, decoded-digits, decoded-predicated, without-predicate, digits-predicated}
+use Rattle.opcodes.proofs.Shapes.{shape-absent, shape-zero, shape-places, shape-step, shape-rule, decoded-digits, decoded-predicated, without-predicate, digits-predicated}
 use Rattle.paper.specs.declared.Reason.the-variants.{Bits as BITS}
 use Rattle.paper.proofs.Below.{both-left, both-right}
 use Rattle.paper.specs.Places.{Entry, absent, listed, entryOf, Place, predicate}

@@ -17,7 +17,7 @@ use Rattle.cutting.specs.Cuttings.{Alone}
 use Rattle.cutting.proofs.OwnTokens.{good-alone}
 use Rattle.records.specs.Record.{recordOf}
 use Rattle.reader.specs.Reading.{got, reading}
-use Rattle.reader.proofs.Laws.{reading-own}
+use Rattle.reader.proofs.ReadingUnique.{reading-own}
 
 module _ (v : Version) (first : ℕ) (rest other : List ℕ) {class : Class} (alone : Alone v first rest class)
     (s : List ℕ) (at : ℕ) (here : drop at s ≡ (first ∷ rest) ++ other) where

@@ -4,4 +4,4 @@ pub mod PlaceKinds
 pub mod Computed
 pub mod Table
 pub mod Decoding
-pub mod Laws
+pub mod Shapes

@@ -25,7 +25,7 @@ use Rattle.instruction_token.specs.declared.Head.{Head}
 use Rattle.instruction_token.specs.declared.Head.the-variants.{Refused as Broken, End, Comment, Declaration, Operation}
 use Rattle.instruction.specs.Claimed.{judgedBy}
 use Rattle.opcodes.specs.Places.{decoded}
-use Rattle.operands.proofs.Laws.{operand-within}
+use Rattle.operands.proofs.OperandAt.{operand-within}
 
 at-operand : (r s : Refusal) → Refused r ≡ Refused s → r .position ≡ s .position
 at-operand r s e = let same : r ≡ s = cc in ap (λ x. x .position) same

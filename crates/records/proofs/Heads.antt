@@ -16,7 +16,7 @@ use Rattle.paper.specs.declared.Version.{Version}
 use Rattle.paper.specs.declared.Version.the-variants.{V2, V3, P2, P3}
 use Rattle.paper.specs.declared.Reason.the-variants.{Bits as BITS}
 use Rattle.paper.specs.Places.{Entry, absent, listed, entryOf, typedPlaces, Place, isPredicate}
-use Rattle.opcodes.proofs.Laws.{few}
+use Rattle.opcodes.proofs.Shapes.{few}
 use Rattle.records.specs.Record.{declaredPlaces}
 use Rattle.records.specs.Encoded.{ordered}
 

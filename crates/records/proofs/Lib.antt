@@ -6,4 +6,4 @@ pub mod Passed
 pub mod Good
 pub mod Declared
 pub mod Readable
-pub mod Laws
+pub mod OwnRecord

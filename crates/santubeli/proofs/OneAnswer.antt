@@ -3,8 +3,8 @@ use mathlib.Core.Path.{_≡_, ap}
 use mathlib.Core.List.{List}
 use Prim.Native.Nat.{ℕ}
 use Rattle.records.specs.declared.Record.{Record}
-use Rattle.writing.specs.Writing.{ToldWriting, Writes}
-use Rattle.writing.proofs.Exactly.{one-writing}
+use Rattle.writer.specs.Writing.{ToldWriting, Writes}
+use Rattle.writer.proofs.Exactly.{one-writing}
 use Rattle.santubeli.specs.declared.WriteAnswer.{WriteAnswer}
 use Rattle.santubeli.specs.Entries.{writeTold}
 

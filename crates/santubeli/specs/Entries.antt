@@ -10,7 +10,7 @@ use Rattle.reader.specs.declared.Reading.{Reading}
 use Rattle.edit.specs.declared.Edited.{Edited}
 use Rattle.edit.specs.declared.Edited.the-variants.{Joined, Accepted as Edited-in-full, Refused as Unedited}
 use Rattle.santubeli.specs.declared.EditAnswer.{EditAnswer}
-use Rattle.writing.specs.Writing.{ToldWriting}
+use Rattle.writer.specs.Writing.{ToldWriting}
 use Rattle.santubeli.specs.declared.WriteAnswer.{WriteAnswer}
 use Rattle.santubeli.specs.declared.Answer.{Answer}
 use Rattle.santubeli.specs.declared.ReadAnswer.{ReadAnswer}

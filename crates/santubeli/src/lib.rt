@@ -3,15 +3,15 @@ ghost use mathlib.Core.Path.{_≡_};
 ghost use Prim.Native.Nat.{_/_};
 ghost use lib.ListN.{length};
 ghost use Rattle.paper.specs.Stream.{verdict};
-ghost use Rattle.bytes.specs.Bytes.{bytesVerdict};
+ghost use Rattle.byte_checker.specs.Bytes.{bytesVerdict};
 ghost use Rattle.reader.specs.Reading.{reading};
 ghost use Rattle.santubeli.specs.Entries.{answerOf, readAnswerOf, editAnswerOf, writeTold};
-ghost use Rattle.writing.specs.Writing.{toldWriting, Writes};
+ghost use Rattle.writer.specs.Writing.{toldWriting, Writes};
 ghost use Rattle.edit.specs.Edit.{editedIn, bufferAfter};
 use edit::Edited;
 use paper::Verdict;
 use records::Record;
-use writing::Written;
+use writer::Written;
 
 #[repr(C)]
 pub struct Answer {
@@ -47,7 +47,7 @@ fn answer_of(tokens: usize, verdict: Verdict) -> Answer
 pub extern "C" fn santubeli_check(bytes: &[u8]) -> Answer
     ensures { λ r. ⌜ r ≡ answerOf (length (now (bytes .entry)) / 4) (bytesVerdict (now (bytes .entry))) ⌝ }
 {
-    let verdict = bytes::check_bytes(bytes);
+    let verdict = byte_checker::check_bytes(bytes);
     answer_of(bytes.len() / 4, verdict)
 }
 
@@ -55,7 +55,7 @@ pub extern "C" fn santubeli_check(bytes: &[u8]) -> Answer
 pub extern "C" fn santubeli_check_tokens(tokens: &[u32]) -> Answer
     ensures { λ r. ⌜ r ≡ answerOf (length (now (tokens .entry))) (verdict (now (tokens .entry))) ⌝ }
 {
-    let verdict = checking::check(tokens);
+    let verdict = checker::check(tokens);
     answer_of(tokens.len(), verdict)
 }
 
@@ -140,7 +140,7 @@ pub extern "C" fn santubeli_edit(
     ensures told { λ r. ⌜ r ≡ editAnswerOf (editedIn (now (buffer .entry)) n i j (now (run .entry))) ⌝ }
     ensures held { λ r. ⌜ now (buffer .exit) ≡ bufferAfter (now (buffer .entry)) n i j (now (run .entry)) ⌝ }
 {
-    let edited = editing::edit(buffer, n, i, j, run);
+    let edited = editor::edit(buffer, n, i, j, run);
     edit_answer_of(edited)
 }
 
@@ -181,6 +181,6 @@ pub extern "C" fn santubeli_write(
 ) -> WriteAnswer
     ensures { λ r. ⌜ Writes version instruction (now (body .entry)) (now (buffer .entry)) at (writeTold r) (now (buffer .exit)) ⌝ }
 {
-    let written = writing::write(version, instruction, body, buffer, at);
+    let written = writer::write(version, instruction, body, buffer, at);
     write_answer_of(written)
 }

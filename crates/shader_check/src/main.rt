@@ -40,7 +40,7 @@ fn main() {
         os::fail(b"shader_check: standard input cannot be read");
         return;
     }
-    let verdict = bytes::check_bytes(&buffer[..held]);
+    let verdict = byte_checker::check_bytes(&buffer[..held]);
     if !print_verdict(held / 4, verdict) {
         os::fail(b"shader_check: standard output cannot be written");
     }

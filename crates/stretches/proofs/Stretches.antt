@@ -26,7 +26,7 @@ use Rattle.paper.specs.declared.Single.the-variants.{Comment as A-comment, Plai
 use Rattle.paper.specs.declared.Judged.{Judged}
 use Rattle.paper.specs.declared.Judged.the-variants.{Good, Refused as Unfit}
 use Rattle.opcodes.specs.Places.{decoded}
-use Rattle.opcodes.proofs.Laws.{class-few}
+use Rattle.opcodes.proofs.Shapes.{class-few}
 use Rattle.told.specs.Numbered.{refusalNumber, judgedNumber, judgedFrom}
 use Rattle.instruction_token.specs.declared.Head.{Head}
 use Rattle.instruction_token.specs.declared.Head.the-variants.{Refused, End, Comment, Declaration, Operation}

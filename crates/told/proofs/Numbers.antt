@@ -14,7 +14,7 @@ use Rattle.paper.specs.declared.Class.the-variants.{One, Opens, Closes}
 use Rattle.paper.specs.declared.Judged.{Judged}
 use Rattle.paper.specs.declared.Judged.the-variants.{Good, Refused}
 use Rattle.opcodes.specs.Classes.{classNumber}
-use Rattle.opcodes.proofs.Laws.{class-few}
+use Rattle.opcodes.proofs.Shapes.{class-few}
 use Rattle.told.specs.Numbered.{classBy, reasonBy, judgedNumber, judgedFrom}
 
 pub number-few : (r : Reason) → numberOf r < 16

@@ -29,7 +29,7 @@ use Rattle.paper.specs.declared.Single.the-variants.{Comment}
 use Rattle.paper.specs.declared.Judged.{Judged}
 use Rattle.paper.specs.declared.Judged.the-variants.{Good, Refused}
 use Rattle.paper.specs.Places.{Place, relative}
-use Rattle.operands.proofs.Laws.{operand-within}
+use Rattle.operands.proofs.OperandAt.{operand-within}
 
 -- how far a refusal lies from the instruction's first token
 

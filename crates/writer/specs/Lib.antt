@@ -1,2 +1,8 @@
--- Document 01, "Records": the tokens that a record stands for.
-pub mod Tokens
+-- Document 01, "Records": what the writer answers and what it leaves in the buffer; the records of a stream written in order; how the code
+-- decides, and the parts as it writes them.
+pub mod Buffer
+pub mod Writing
+pub mod InOrder
+pub mod Same
+pub mod Decided
+pub mod Row

@@ -1,4 +1,4 @@
-use Rattle.dcl.proofs.Laws.{sampler-types, plain-types}
+use Rattle.dcl.proofs.Declarations.{sampler-types, plain-types}
 use borrow.Author.Needs.{needs}
 use Rattle.dcl.proofs.form_laid.Statement.{statement}
 use Rattle.dcl.proofs.form_laid.Tie as tie

@@ -1,4 +1,4 @@
-use Rattle.dcl.proofs.Laws.{sampler-types, plain-types, usage-types}
+use Rattle.dcl.proofs.Declarations.{sampler-types, plain-types, usage-types}
 use borrow.Author.Needs.{needs}
 use Rattle.dcl.proofs.is_declared.Statement.{statement}
 use Rattle.dcl.proofs.is_declared.Tie as tie

@@ -1,6 +1,6 @@
 use mathlib.Core.Path.{ap, _∙_, sym}
 use Rattle.paper.specs.Numbers.{toldOperands}
-use Rattle.dcl.proofs.Laws.{no-destination, with-destination}
+use Rattle.dcl.proofs.Declarations.{no-destination, with-destination}
 use borrow.Author.Needs.{needs}
 use Rattle.dcl.proofs.judge_declaration.Statement.{statement}
 use Rattle.dcl.proofs.judge_declaration.Tie as tie

@@ -1,6 +1,6 @@
 use mathlib.Core.Path.{sym, _∙_}
 use borrow.Author.Tests.{eq-eqb, ne-eqb}
-use Rattle.layout.proofs.Laws.{destination-order}
+use Rattle.layout.proofs.Layouts.{destination-order}
 use borrow.Author.Needs.{needs}
 use Rattle.layout.proofs.free_destination_laid.Statement.{statement}
 use Rattle.layout.proofs.free_destination_laid.Tie as tie

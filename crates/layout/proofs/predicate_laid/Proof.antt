@@ -1,7 +1,7 @@
 use mathlib.Core.Path.{refl, sym, _∙_}
 use borrow.Author.Needs.{needs}
 use Rattle.paper.specs.Places.{predicate}
-use Rattle.layout.proofs.Laws.{unfree-order}
+use Rattle.layout.proofs.Layouts.{unfree-order}
 use Rattle.layout.proofs.predicate_laid.Statement.{statement}
 use Rattle.layout.proofs.predicate_laid.Tie as tie
 

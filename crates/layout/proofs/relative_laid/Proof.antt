@@ -1,7 +1,7 @@
 use mathlib.Core.Path.{refl, sym}
 use borrow.Author.Needs.{needs}
 use Rattle.paper.specs.Places.{relative}
-use Rattle.layout.proofs.Laws.{unfree-order}
+use Rattle.layout.proofs.Layouts.{unfree-order}
 use Rattle.layout.proofs.relative_laid.Statement.{statement}
 use Rattle.layout.proofs.relative_laid.Tie as tie
 

@@ -3,7 +3,7 @@ use native.Mathlib.Omega.{arith}
 use borrow.Author.Tests.{eq-eqb, ne-eqb}
 use Rattle.paper.specs.OperandTokens.{modifierOf, typeOf}
 use Rattle.versions.specs.Sets.{holds}
-use Rattle.layout.proofs.Laws.{source-modifier}
+use Rattle.layout.proofs.Layouts.{source-modifier}
 use borrow.Author.Needs.{needs}
 use Rattle.layout.proofs.source_modifier.Statement.{statement}
 use Rattle.layout.proofs.source_modifier.Tie as tie

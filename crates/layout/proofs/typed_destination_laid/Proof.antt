@@ -1,5 +1,5 @@
 use mathlib.Core.Path.{sym, _∙_}
-use Rattle.layout.proofs.Laws.{typed-destination-order}
+use Rattle.layout.proofs.Layouts.{typed-destination-order}
 use borrow.Author.Needs.{needs}
 use Rattle.layout.proofs.typed_destination_laid.Statement.{statement}
 use Rattle.layout.proofs.typed_destination_laid.Tie as tie

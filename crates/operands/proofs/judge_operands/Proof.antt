@@ -5,7 +5,7 @@ use lib.ListN.{length, drop}
 use Rattle.paper.specs.Instruction.{operand, operands}
 use Rattle.opcodes.specs.Places.{placeBy, decoded}
 use Rattle.operands.specs.Numbered.{operandsNumber}
-use Rattle.operands.proofs.Laws.{operand-within, operand-few, decoded-few, decoded-less, operands-on, operands-refused, operands-fit, operands-over}
+use Rattle.operands.proofs.OperandAt.{operand-within, operand-few, decoded-few, decoded-less, operands-on, operands-refused, operands-fit, operands-over}
 use Rattle.operands.proofs.Numbers.{taken-even, taken-odd}
 use Rattle.operands.proofs.judge_operands.Statement.{statement}
 use Rattle.operands.proofs.judge_operands.Tie as tie

@@ -4,7 +4,7 @@ use native.Mathlib.Omega.{arith}
 use lib.ListN.{getD}
 use Rattle.paper.specs.OperandTokens.{tokenAt}
 use Rattle.paper.specs.Places.{freeSource, freeDestination}
-use Rattle.operands.proofs.Laws.{operand-none, free-number, typed-number, raw-number}
+use Rattle.operands.proofs.OperandAt.{operand-none, free-number, typed-number, raw-number}
 use Rattle.operands.proofs.Numbers.{token-few}
 use Rattle.opcodes.specs.Places.{placeBy}
 use Rattle.opcodes.proofs.Places.{raw-place, free-destination-place, free-source-place}

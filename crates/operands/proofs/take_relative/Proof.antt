@@ -5,7 +5,7 @@ use lib.ListN.{getD}
 use borrow.Author.Tests.{ne-eqb}
 use Rattle.paper.specs.OperandTokens.{tokenAt}
 use Rattle.paper.specs.Places.{relative}
-use Rattle.operands.proofs.Laws.{relative-none, relative-number}
+use Rattle.operands.proofs.OperandAt.{relative-none, relative-number}
 use Rattle.operands.proofs.Numbers.{token-few}
 use borrow.Author.Needs.{needs}
 use Rattle.operands.proofs.take_relative.Statement.{statement}

@@ -1,4 +1,4 @@
-use Rattle.bytes.specs.Bytes.{bytesVerdict}
+use Rattle.byte_checker.specs.Bytes.{bytesVerdict}
 use Prim.Native.Nat.{_/_}
 use lib.ListN.{length}
 use mathlib.Core.Path.{ap, _∙_}

@@ -7,7 +7,7 @@ use Rattle.santubeli.proofs.santubeli_edit.Statement.{statement}
 use Rattle.santubeli.proofs.santubeli_edit.Tie as tie
 use Rattle.santubeli.proofs.santubeli_edit.Reads as reads
 use Rattle.santubeli.proofs.santubeli_edit.Lts as lts
-use Rattle.editing.proofs.edit.Reads as edit-reads
+use Rattle.editor.proofs.edit.Reads as edit-reads
 use Rattle.santubeli.proofs.edit_answer_of.Reads as edit-answer-of-reads
 
 -- src/lib.rt:135:9

@@ -1,4 +1,4 @@
-use Rattle.reader.proofs.Laws.{told-one}
+use Rattle.reader.proofs.ReadingUnique.{told-one}
 use borrow.Author.Needs.{needs}
 use Rattle.santubeli.proofs.santubeli_read.Statement.{statement}
 use Rattle.santubeli.proofs.santubeli_read.Tie as tie

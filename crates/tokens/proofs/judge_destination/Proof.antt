@@ -1,7 +1,7 @@
 use mathlib.Core.Path.{sym, _∙_}
 use Rattle.paper.specs.OperandTokens.{tokenAt}
-use Rattle.tokens.proofs.Laws.{plain-destination-laid}
-use Rattle.versions.proofs.Laws.{destination-types}
+use Rattle.tokens.proofs.TokenAt.{plain-destination-laid}
+use Rattle.versions.proofs.Types.{destination-types}
 use borrow.Author.Needs.{needs}
 use Rattle.tokens.proofs.judge_destination.Statement.{statement}
 use Rattle.tokens.proofs.judge_destination.Tie as tie

@@ -1,7 +1,7 @@
 use mathlib.Core.Path.{sym, _∙_}
 use Rattle.paper.specs.OperandTokens.{tokenAt}
-use Rattle.tokens.proofs.Laws.{plain-source-laid}
-use Rattle.versions.proofs.Laws.{source-types}
+use Rattle.tokens.proofs.TokenAt.{plain-source-laid}
+use Rattle.versions.proofs.Types.{source-types}
 use borrow.Author.Needs.{needs}
 use Rattle.tokens.proofs.judge_source.Statement.{statement}
 use Rattle.tokens.proofs.judge_source.Tie as tie

@@ -5,7 +5,7 @@ use Rattle.paper.specs.Numbers.{toldToken}
 use Rattle.opcodes.specs.Places.{placeBy}
 use Rattle.opcodes.proofs.Places.{free-source-place, free-destination-place}
 use Rattle.opcodes.proofs.PlaceKinds.{not-free}
-use Rattle.tokens.proofs.Laws.{raw-good}
+use Rattle.tokens.proofs.TokenAt.{raw-good}
 use Rattle.tokens.proofs.judge_token.Statement.{statement}
 use Rattle.tokens.proofs.judge_token.Tie as tie
 

@@ -5,8 +5,8 @@ use lib.Dec.{lit<}
 use borrow.Author.Needs.{needs}
 use Rattle.paper.specs.OperandTokens.{typeOf}
 use Rattle.versions.proofs.Sets.{one-among}
-use Rattle.versions.proofs.Laws.{type-small}
-use Rattle.tokens.proofs.Laws.{one-bit}
+use Rattle.versions.proofs.Types.{type-small}
+use Rattle.tokens.proofs.TokenAt.{one-bit}
 use Rattle.tokens.proofs.one_typed.Statement.{statement}
 use Rattle.tokens.proofs.one_typed.Tie as tie
 

@@ -1,6 +1,6 @@
 use mathlib.Core.Path.{sym, _∙_}
 use borrow.Author.Tests.{eq-eqb, ne-eqb}
-use Rattle.versions.proofs.Laws.{condition-type}
+use Rattle.versions.proofs.Types.{condition-type}
 use borrow.Author.Needs.{needs}
 use Rattle.versions.proofs.condition_typed.Statement.{statement}
 use Rattle.versions.proofs.condition_typed.Tie as tie

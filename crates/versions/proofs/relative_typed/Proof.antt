@@ -1,6 +1,6 @@
 use mathlib.Core.Path.{sym, _∙_}
 use borrow.Author.Tests.{eq-eqb, ne-eqb}
-use Rattle.versions.proofs.Laws.{relative-type}
+use Rattle.versions.proofs.Types.{relative-type}
 use borrow.Author.Needs.{needs}
 use Rattle.versions.proofs.relative_typed.Statement.{statement}
 use Rattle.versions.proofs.relative_typed.Tie as tie

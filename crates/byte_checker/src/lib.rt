@@ -1,0 +1,192 @@
+// The check of a byte range: document 01, "What the build does".
+ghost use mathlib.Core.Path.{_≡_};
+ghost use Prim.Native.Nat.{_+_, _*_, _<_, _≤_};
+ghost use lib.ListN.{length, take, drop};
+ghost use Rattle.paper.specs.Numbers.{told, refusal};
+ghost use Rattle.paper.specs.Stream.{walked};
+ghost use Rattle.walk.specs.Stands.{Stands};
+ghost use Rattle.byte_checker.specs.Bytes.{tokenIn, tokensIn, verdictAtEnd, bytesVerdict};
+ghost use Rattle.byte_checker.specs.Views.{Within, held as heldOf, Comes};
+use paper::Named;
+use paper::Reason;
+use paper::Refusal;
+use paper::Verdict;
+use paper::Version;
+use walk::State;
+use walk::Stepped;
+
+// LENGTH: "fewer than 2 or more than 16,384 tokens".
+const MOST_TOKENS: usize = 16384;
+
+// So many tokens are read at once.
+const WINDOW: usize = 128;
+
+// "Bits 27:24 are the size": nothing but a comment claims more tokens behind its first one.
+const MOST_CLAIMED: usize = 15;
+
+fn wide(byte: u8) -> u32
+    ensures { λ r. ⌜ (r ≡ byte) × (r < 256) ⌝ }
+{
+    byte as u32
+}
+
+// The token at `at`, read from its four bytes.
+fn token_at(bytes: &[u8], at: usize) -> u32
+    requires { ⌜ 4 * at + 3 < length (now bytes) ⌝ }
+    ensures { λ r. ⌜ r ≡ tokenIn (now (bytes .entry)) at ⌝ }
+{
+    let lowest = 4 * at;
+    let b0 = wide(bytes[lowest]);
+    let b1 = wide(bytes[lowest + 1]);
+    let b2 = wide(bytes[lowest + 2]);
+    let b3 = wide(bytes[lowest + 3]);
+    b0 + 0x100 * b1 + 0x1_0000 * b2 + 0x100_0000 * b3
+}
+
+// The `n` tokens from `from` on, at the front of a window.
+fn fill(window: &mut [u32], bytes: &[u8], from: usize, n: usize)
+    requires { ⌜ (n ≤ length (now window)) × (4 * (from + n) ≤ length (now bytes)) ⌝ }
+    ensures { λ _. ⌜ take n (now (window .exit)) ≡ take n (drop from (tokensIn (now (bytes .entry)))) ⌝ }
+{
+    let mut k = 0;
+    while k < n {
+        window[k] = token_at(bytes, from + k);
+        k += 1;
+    }
+}
+
+fn refused(reason: Reason, position: usize) -> Verdict
+    ensures { λ r. ⌜ r ≡ Verdict.Refused (refusal reason position) ⌝ }
+{
+    Verdict::Refused(Refusal { reason, position })
+}
+
+// Behind the END that finishes a stream of `tokens` tokens.
+fn conclude(state: State, tokens: usize) -> Verdict
+    ensures { λ r. ⌜ r ≡ verdictAtEnd state tokens ⌝ }
+{
+    if state.at < tokens {
+        return refused(Reason::Tail, state.at);
+    }
+    Verdict::Accepted(state.count)
+}
+
+// A part of a stream, as a window holds it: so many tokens from a position on. The instructions that begin before `until` have all
+// their tokens in it, or the stream's last.
+struct View {
+    start: usize,
+    held: usize,
+    until: usize,
+}
+
+// The part from `at` on: a window of tokens, or all that are left. What a comment claims is skipped, and need not be in it.
+fn view_from(at: usize, tokens: usize) -> View
+    requires { ⌜ at < tokens ⌝ }
+    ensures { λ r. ⌜ (r .start ≡ at) × (at < r .until) × (r .held ≤ 128) × Within tokens r ⌝ }
+{
+    let left = tokens - at;
+    if left <= WINDOW {
+        return View {
+            start: at,
+            held: left,
+            until: tokens,
+        };
+    }
+    View {
+        start: at,
+        held: WINDOW,
+        until: at + (WINDOW - MOST_CLAIMED),
+    }
+}
+
+// The walk from `from` on over a part that is held, as far as `until`.
+fn walk_view(
+    version: Version,
+    bytes: &[u8],
+    tokens: usize,
+    part: &[u32],
+    view: View,
+    from: State,
+) -> Stepped
+    requires { ⌜ (length (now bytes) ≡ 4 * tokens) × (now part ≡ heldOf (tokensIn (now bytes)) view) × Within tokens view × Stands version (tokensIn (now bytes)) from × (view .start ≤ from .at) × (from .at < view .until) ⌝ }
+    ensures { λ r. ⌜ Comes version (tokensIn (now (bytes .entry))) (view .until) r ⌝ }
+{
+    let beyond = tokens - (view.start + view.held);
+    let stop = view.until - view.start;
+    let mut state = from;
+    loop {
+        let stretch = stretches::judge_stretch(version, part, state.at - view.start, stop, beyond);
+        let stepped = walk::step_told(
+            view.start + stretch.at,
+            state.count + stretch.count,
+            state.kinds,
+            stretch.told,
+        );
+        match stepped {
+            Stepped::On(next) => {
+                if view.until <= next.at {
+                    return Stepped::On(next);
+                }
+                state = next;
+            }
+            Stepped::Done(end) => {
+                return Stepped::Done(end);
+            }
+            Stepped::Refused(refusal) => {
+                return Stepped::Refused(refusal);
+            }
+        }
+    }
+}
+
+// The walk of a stream, from behind its version on: a window is filled with a part of it, and filled again where that ends.
+fn walk_bytes(version: Version, bytes: &[u8], tokens: usize) -> Verdict
+    requires { ⌜ (1 ≤ tokens) × (length (now bytes) ≡ 4 * tokens) ⌝ }
+    ensures { λ r. ⌜ r ≡ walked version (tokensIn (now (bytes .entry))) ⌝ }
+{
+    let mut window = [0u32; WINDOW];
+    let mut state = State {
+        at: 1,
+        count: 0,
+        kinds: 0,
+    };
+    while state.at < tokens {
+        let view = view_from(state.at, tokens);
+        let held = view.held;
+        fill(&mut window, bytes, state.at, held);
+        let stepped = walk_view(version, bytes, tokens, &window[..held], view, state);
+        match stepped {
+            Stepped::On(next) => {
+                state = next;
+            }
+            Stepped::Done(end) => {
+                return conclude(end, tokens);
+            }
+            Stepped::Refused(refusal) => {
+                return Verdict::Refused(refusal);
+            }
+        }
+    }
+    refused(Reason::RunOut, tokens)
+}
+
+// The loader "hands the check a byte range, tokens little-endian".
+pub fn check_bytes(bytes: &[u8]) -> Verdict
+    ensures { λ r. ⌜ told r ≡ told (bytesVerdict (now (bytes .entry))) ⌝ }
+{
+    if bytes.len() % 4 != 0 {
+        return refused(Reason::Length, 0);
+    }
+    let tokens = bytes.len() / 4;
+    if tokens < 2 {
+        return refused(Reason::Length, 0);
+    }
+    if MOST_TOKENS < tokens {
+        return refused(Reason::Length, 0);
+    }
+    let named = versions::version_of(token_at(bytes, 0));
+    match named {
+        Named::Known(version) => walk_bytes(version, bytes, tokens),
+        Named::Unknown => refused(Reason::Version, 0),
+    }
+}

@@ -1,0 +1,274 @@
+// The edit: document 01, "The edit". The old stream is walked once, up to j, and the splice from i on; the buffer is changed
+// only after a yes.
+ghost use mathlib.Core.Path.{_≡_};
+ghost use Prim.Native.Nat.{_+_, _-_, _<_, _≤_};
+ghost use lib.ListN.{length, take, drop, getD};
+ghost use Rattle.paper.specs.Numbers.{refusal};
+ghost use Rattle.paper.specs.Stream.{mostTokens};
+ghost use Rattle.edit.specs.Edit.{splice, newLength, spliced, edited, editedIn, bufferAfter, toldEdit};
+ghost use Rattle.walk.specs.Stands.{Stands, stepAt};
+ghost use Rattle.editor.specs.Steps.{behindRun};
+ghost use Rattle.editor.specs.Found.{FoundAt, Between, InSplice};
+ghost use Rattle.editor.specs.Answers.{editAtEnd, afterPlace, afterVersion};
+use edit::Edited;
+use paper::Named;
+use paper::Reason;
+use paper::Refusal;
+use paper::Version;
+use walk::State;
+use walk::Stepped;
+
+// LENGTH: "fewer than 2 or more than 16,384 tokens".
+const MOST_TOKENS: usize = 16384;
+
+// "Bits 27:24 are the size": an instruction is judged by no more than its first token and fifteen behind it.
+const MOST_SHOWN: usize = 16;
+
+// A walk comes to a position, and stands there so, or it does not come there.
+enum Found {
+    At(State),
+    Nowhere,
+}
+
+fn refused(reason: Reason, position: usize) -> Edited
+    ensures { λ r. ⌜ r ≡ Edited.Refused (refusal reason position) ⌝ }
+{
+    Edited::Refused(Refusal { reason, position })
+}
+
+// The walk from `from` on, up to `target`.
+fn walk_to(version: Version, tokens: &[u32], from: State, target: usize) -> Found
+    requires { ⌜ Stands version (now tokens) from × (from .at ≤ target) × (target < length (now tokens)) ⌝ }
+    ensures { λ r. ⌜ FoundAt version (now (tokens .entry)) target r ⌝ }
+{
+    let mut state = from;
+    while state.at < target {
+        let stretch = stretches::judge_stretch(version, tokens, state.at, target, 0);
+        let stepped = walk::step_told(
+            stretch.at,
+            state.count + stretch.count,
+            state.kinds,
+            stretch.told,
+        );
+        match stepped {
+            Stepped::On(next) => {
+                if target < next.at {
+                    return Found::Nowhere;
+                }
+                state = next;
+            }
+            Stepped::Done(_) => {
+                return Found::Nowhere;
+            }
+            Stepped::Refused(_) => {
+                return Found::Nowhere;
+            }
+        }
+    }
+    Found::At(state)
+}
+
+// The token at `at` of the run and the old tokens from `j` on, as the splice has them.
+fn token_of(run: &[u32], old: &[u32], j: usize, at: usize) -> u32
+    requires { ⌜ (j ≤ length (now old)) × (at < length (now run) + (length (now old) - j)) ⌝ }
+    ensures { λ r. ⌜ r ≡ getD (behindRun (now (run .entry)) (now (old .entry)) j) at 0 ⌝ }
+{
+    if at < run.len() {
+        return run[at];
+    }
+    old[j + (at - run.len())]
+}
+
+// `n` of them from `from` on, at the front of a window.
+fn gather(window: &mut [u32], run: &[u32], old: &[u32], j: usize, from: usize, n: usize)
+    requires { ⌜ (j ≤ length (now old)) × (n ≤ length (now window)) × (from + n ≤ length (now run) + (length (now old) - j)) × (length (now run) ≤ mostTokens) ⌝ }
+    ensures { λ _. ⌜ take n (now (window .exit)) ≡ take n (drop from (behindRun (now (run .entry)) (now (old .entry)) j)) ⌝ }
+{
+    let mut k = 0;
+    while k < n {
+        window[k] = token_of(run, old, j, from + k);
+        k += 1;
+    }
+}
+
+// How many tokens of an instruction are shown, where so many are left from its first one on: all but those past the sixteenth.
+fn shown_of(left: usize) -> usize
+    ensures { λ r. ⌜ r + (left - 16) ≡ left ⌝ }
+{
+    if left < MOST_SHOWN {
+        return left;
+    }
+    MOST_SHOWN
+}
+
+// The step at `state` of the splice, at i or behind. Only an instruction of the run that may take old tokens is gathered into the
+// window.
+fn step_spliced(
+    version: Version,
+    old: &[u32],
+    i: usize,
+    j: usize,
+    run: &[u32],
+    state: State,
+    window: &mut [u32],
+) -> Stepped
+    requires { ⌜ InSplice (now old) i j (now run) (state .at) × (length (now window) ≡ 16) ⌝ }
+    ensures { λ r. ⌜ r ≡ stepAt version (splice (now (old .entry)) i j (now (run .entry))) state ⌝ }
+{
+    let at = state.at - i;
+    if run.len() <= at {
+        return walk::step_in(version, state, old, j + (at - run.len()), 0);
+    }
+    let own = run.len() - at;
+    let rest = old.len() - j;
+    if MOST_SHOWN <= own {
+        return walk::step_in(version, state, run, at, rest);
+    }
+    let left = own + rest;
+    let shown = shown_of(left);
+    gather(window, run, old, j, at, shown);
+    walk::step_in(version, state, &window[..shown], 0, left - shown)
+}
+
+// Behind the END that finishes a splice of `length` tokens.
+fn conclude(state: State, tokens: usize) -> Edited
+    ensures { λ r. ⌜ r ≡ editAtEnd state tokens ⌝ }
+{
+    if state.at < tokens {
+        return refused(Reason::Tail, state.at);
+    }
+    Edited::Accepted(tokens)
+}
+
+// The walk of the splice from i on, where the old stream stands as `first`. At the run's end with the blocks of `last`, where it
+// stands at j, it is JOINED, and nothing more is read.
+fn walk_spliced(version: Version, old: &[u32], first: State, last: State, run: &[u32]) -> Edited
+    requires { ⌜ Between version (now old) first last × (length (now old) ≤ mostTokens) × (newLength (length (now old)) (first .at) (last .at) (length (now run)) ≤ mostTokens) ⌝ }
+    ensures { λ r. ⌜ r ≡ spliced version (now (old .entry)) (first .at) (last .at) (now (run .entry)) ⌝ }
+{
+    let i = first.at;
+    let j = last.at;
+    let end = i + run.len();
+    let length = end + (old.len() - j);
+    let mut window = [0u32; 16];
+    let mut state = first;
+    while state.at < length {
+        if (state.at == end) & (state.kinds == last.kinds) {
+            return Edited::Joined(length);
+        }
+        let stepped = step_spliced(version, old, i, j, run, state, &mut window);
+        match stepped {
+            Stepped::On(next) => {
+                state = next;
+            }
+            Stepped::Done(done) => {
+                return conclude(done, length);
+            }
+            Stepped::Refused(refusal) => {
+                return Edited::Refused(refusal);
+            }
+        }
+    }
+    refused(Reason::RunOut, length)
+}
+
+// "ROOM (new length n - (j - i) + m against buffer and 16,384)". The sum is made only where it fits.
+fn edit_placed(
+    version: Version,
+    old: &[u32],
+    room: usize,
+    first: State,
+    last: State,
+    run: &[u32],
+) -> Edited
+    requires { ⌜ Between version (now old) first last × (length (now old) ≤ mostTokens) ⌝ }
+    ensures { λ r. ⌜ r ≡ afterPlace version room (now (old .entry)) (first .at) (last .at) (now (run .entry)) ⌝ }
+{
+    let kept = old.len() - (last.at - first.at);
+    if MOST_TOKENS - kept < run.len() {
+        return refused(Reason::Room, 0);
+    }
+    if room < kept + run.len() {
+        return refused(Reason::Room, 0);
+    }
+    walk_spliced(version, old, first, last, run)
+}
+
+// The second place, behind the first one.
+fn edit_behind(
+    version: Version,
+    old: &[u32],
+    room: usize,
+    first: State,
+    j: usize,
+    run: &[u32],
+) -> Edited
+    requires { ⌜ Stands version (now old) first × (first .at ≤ j) × (j < length (now old)) × (length (now old) ≤ mostTokens) ⌝ }
+    ensures { λ r. ⌜ r ≡ afterVersion version room (now (old .entry)) (first .at) j (now (run .entry)) ⌝ }
+{
+    let found = walk_to(version, old, first, j);
+    match found {
+        Found::At(last) => edit_placed(version, old, room, first, last, run),
+        Found::Nowhere => refused(Reason::Place, 0),
+    }
+}
+
+// "PLACE (i and j boundaries, i at most j)".
+fn edit_known(version: Version, old: &[u32], room: usize, i: usize, j: usize, run: &[u32]) -> Edited
+    requires { ⌜ (2 ≤ length (now old)) × (length (now old) ≤ mostTokens) ⌝ }
+    ensures { λ r. ⌜ r ≡ afterVersion version room (now (old .entry)) i j (now (run .entry)) ⌝ }
+{
+    if i < 1 {
+        return refused(Reason::Place, 0);
+    }
+    if j < i {
+        return refused(Reason::Place, 0);
+    }
+    if old.len() <= j {
+        return refused(Reason::Place, 0);
+    }
+    let start = State {
+        at: 1,
+        count: 0,
+        kinds: 0,
+    };
+    let found = walk_to(version, old, start, i);
+    match found {
+        Found::At(first) => edit_behind(version, old, room, first, j, run),
+        Found::Nowhere => refused(Reason::Place, 0),
+    }
+}
+
+// "Order: LENGTH, VERSION, PLACE .., ROOM ..": the edit of a stream, in a buffer with so much room.
+fn edit_stream(old: &[u32], room: usize, i: usize, j: usize, run: &[u32]) -> Edited
+    ensures { λ r. ⌜ r ≡ edited room (now (old .entry)) i j (now (run .entry)) ⌝ }
+{
+    if old.len() < 2 {
+        return refused(Reason::Length, 0);
+    }
+    if MOST_TOKENS < old.len() {
+        return refused(Reason::Length, 0);
+    }
+    let named = versions::version_of(old[0]);
+    match named {
+        Named::Known(version) => edit_known(version, old, room, i, j, run),
+        Named::Unknown => refused(Reason::Version, 0),
+    }
+}
+
+// The tokens from `i` to `j` of the buffer's first `n` are replaced by the run, if the splice is good.
+pub fn edit(buffer: &mut [u32], n: usize, i: usize, j: usize, run: &[u32]) -> Edited
+    ensures told { λ r. ⌜ toldEdit r ≡ toldEdit (editedIn (now (buffer .entry)) n i j (now (run .entry))) ⌝ }
+    ensures held { λ r. ⌜ now (buffer .exit) ≡ bufferAfter (now (buffer .entry)) n i j (now (run .entry)) ⌝ }
+{
+    let room = buffer.len();
+    if room < n {
+        return refused(Reason::Length, 0);
+    }
+    let answer = edit_stream(&buffer[..n], room, i, j, run);
+    if let Edited::Refused(refusal) = answer {
+        return Edited::Refused(refusal);
+    }
+    splicer::splice_in(buffer, n, i, j, run);
+    answer
+}

@@ -1,0 +1,26 @@
+use Rattle.reader.proofs.ReadingUnique.{told-one}
+use borrow.Author.Needs.{needs}
+use Rattle.writer.proofs.is_yielded.Statement.{statement}
+use Rattle.writer.proofs.is_yielded.Tie as tie
+
+read-requires : tie.Need-read-requires
+read-requires c κs = search needs
+
+enum-told : tie.Need-enum-told
+enum-told c = search needs
+
+same-record-requires : tie.Need-same-record-requires
+same-record-requires c κs = search needs
+
+enum-told-2 : tie.Need-enum-told-2
+enum-told-2 c = search needs
+
+returns : tie.Need-returns
+returns c = rw (← (told-one _ _ (c .before .before .before .before .read .ensures)), c .before .enum-told .given .1) (c .same-record .ensures)
+
+returns-2 : tie.Need-returns-2
+returns-2 c = rw (← (told-one _ _ (c .before .before .before .read .ensures)), c .enum-told2 .given .1)
+
+pub is-yielded-spec : {M : Type 1} → statement M
+is-yielded-spec =
+    tie.close (tie.spec read-requires enum-told same-record-requires enum-told-2 returns returns-2)

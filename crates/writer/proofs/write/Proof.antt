@@ -1,0 +1,53 @@
+use mathlib.Core.Path.{sym, _∙_}
+use Rattle.paper.proofs.OneToOne.{same-named}
+use Rattle.writer.specs.Writing.{unnamed}
+use Rattle.writer.proofs.Answers.{version-named}
+use Rattle.writer.proofs.Exactly.{known-writes}
+use borrow.Author.Needs.{needs}
+use Rattle.writer.proofs.write.Statement.{statement}
+use Rattle.writer.proofs.write.Tie as tie
+
+version-of-requires : tie.Need-version-of-requires
+version-of-requires c κs = search needs
+
+enum-known-named : tie.Need-enum-known-named
+enum-known-named c = search needs
+
+write-known-requires : tie.Need-write-known-requires
+write-known-requires c κs = let s = c .before .before .before .before .before .before .before in
+    version-named (s .args .version) _ (sym (same-named _ _ (c .before .before .before .before .version-of .ensures)) ∙ c .before .before .named .given .1)
+
+enum-told : tie.Need-enum-told
+enum-told c = search needs
+
+refused-requires : tie.Need-refused-requires
+refused-requires c κs = search needs
+
+same-length : tie.Need-same-length
+same-length c = search needs
+
+returns : tie.Need-returns
+returns c =
+    let s = c .before .before .before .before .before .before .before .before .before .before in
+    let g = s .args in
+    let n = sym (same-named _ _ (c .before .before .before .before .before .before .before .version-of .ensures)) ∙ c .before .before .before .before .before .named .given .1 in
+    rw (c .before .before .write-known .ensures .0, c .before .before .write-known .ensures .1)
+    (known-writes (g .version) (g .instruction) (g .body .now) (g .buffer .now) (g .at) _ n)
+
+returns-2 : tie.Need-returns-2
+returns-2 c =
+    let n = sym (same-named _ _ (c .before .before .before .version-of .ensures)) ∙ c .before .enum-told .given .1 in
+    rw (c .refused .ensures) (unnamed n)
+
+pub write-spec : {M : Type 1} → statement M
+write-spec =
+    tie.close
+    (tie.spec
+    version-of-requires
+    enum-known-named
+    write-known-requires
+    enum-told
+    refused-requires
+    same-length
+    returns
+    returns-2)
