@@ -10,7 +10,7 @@ use Rattle.paper.specs.Numbers.{refusal}
 use Rattle.paper.specs.Dcl.{declaration}
 use Rattle.paper.specs.Blocks.{classOf}
 use Rattle.paper.specs.Instruction.{operands, onOperands}
-use Rattle.opcodes.specs.Places.{decoded}
+use Rattle.places.specs.Places.{decoded}
 use Rattle.paper.specs.declared.Version.{Version}
 use Rattle.paper.specs.declared.Class.the-variants.{One, Closes}
 use Rattle.paper.specs.declared.Single.the-variants.{Comment as comment-of}

@@ -14,9 +14,11 @@ use Rattle.paper.specs.Versions.{isThird}
 use Rattle.paper.specs.InstructionToken.{opcodeOf, controlsOf, statedSize, isPredicated, commentOpcode, commentLength, commentLaid, endOpcode, endToken, hasDestination, mayBePredicated, withPredicate, controlsLaid, bitsLaid}
 use Rattle.paper.specs.Instruction.{Head as Said, broken, end, comment, dcl, operation, headOf, tokenHead}
 use Rattle.paper.specs.declared.Version.{Version}
-use Rattle.opcodes.specs.Places.{numberBy, decoded}
-use Rattle.opcodes.specs.Shape.{digits, shapeOf}
-use Rattle.opcodes.proofs.Shapes.{shape-absent, shape-zero, shape-places, shape-step, shape-rule, decoded-digits, decoded-predicated, without-predicate, digits-predicated}
+use Rattle.places.specs.Places.{numberBy, decoded}
+use Rattle.opcodes.specs.Shape.{shapeOf}
+use Rattle.places.specs.Places.{digits}
+use Rattle.opcodes.proofs.Shapes.{shape-absent, shape-zero, shape-places, shape-step, shape-rule, decoded-digits, decoded-predicated}
+use Rattle.places.proofs.Decoding.{without-predicate, digits-predicated}
 use Rattle.paper.specs.declared.Reason.the-variants.{Bits as BITS}
 use Rattle.paper.proofs.Below.{both-left, both-right}
 use Rattle.paper.specs.Places.{Entry, absent, listed, entryOf, Place, predicate}

@@ -7,8 +7,8 @@ use Rattle.paper.specs.Numbers.{numberOf}
 use Rattle.paper.specs.OpcodeTable.{DCL}
 use Rattle.paper.specs.InstructionToken.{opcodeOf, controlsOf, statedSize, isPredicated}
 use Rattle.paper.specs.Instruction.{Head as Said, broken, end, comment, dcl, operation}
-use Rattle.opcodes.specs.Places.{numberBy}
-use Rattle.opcodes.specs.Shape.{digits}
+use Rattle.places.specs.Places.{numberBy}
+use Rattle.places.specs.Places.{digits}
 use Rattle.paper.specs.declared.Reason.the-variants.{Opcode as OPCODE, Bits as BITS}
 use Rattle.paper.specs.Places.{predicate}
 use Rattle.instruction_token.specs.declared.Head.{Head}

@@ -1,7 +1,4 @@
 -- What the proofs of the functions share, and the laws that callers use.
-pub mod Places
-pub mod PlaceKinds
 pub mod Computed
 pub mod Table
-pub mod Decoding
 pub mod Shapes

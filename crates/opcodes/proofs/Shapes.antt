@@ -18,14 +18,14 @@ use Rattle.paper.specs.declared.Closer.the-variants.{Else, EndIf, EndLoop, EndR
 use Rattle.paper.specs.declared.Class.{Class}
 use Rattle.paper.specs.declared.Class.the-variants.{One, Opens, Closes}
 use Rattle.opcodes.specs.Classes.{classNumber}
-use Rattle.opcodes.specs.Shape.{digits, controlsRule, predicateStep, shapeIn, shapeOf}
-use Rattle.opcodes.specs.Places.{numberBy, decoded}
+use Rattle.opcodes.specs.Shape.{controlsRule, predicateStep, shapeIn, shapeOf}
+use Rattle.places.specs.Places.{digits}
+use Rattle.places.specs.Places.{numberBy, decoded}
 use Rattle.paper.proofs.Below.{both-left, both-right}
 use Rattle.paper.specs.Places.{Entry, absent, listed, entryOf, Place, predicate, isPredicate, typedPlaces}
 use Rattle.opcodes.proofs.Computed.{computed}
 use Rattle.opcodes.proofs.Table.{limit, beyond}
-use Rattle.opcodes.proofs.Decoding.{arePlaces, decoded-places, predicated-places, predicated-length}
-pub use Rattle.opcodes.proofs.Decoding.{decoded-zero, decoded-step, without-predicate, digits-predicated}
+use Rattle.places.proofs.Decoding.{arePlaces, decoded-places, predicated-places, predicated-length, digits-predicated}
 
 -- none of the places is the predicate's
 abbrev pub unpredicated : List Place → Bool

@@ -1,5 +1,4 @@
 -- The opcode table as the code looks it up.
 pub mod Classes
-pub mod Places
 pub mod Shape
 pub mod Rows

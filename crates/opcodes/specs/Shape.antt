@@ -9,13 +9,8 @@ use Rattle.paper.specs.InstructionToken.{mayBePredicated}
 use Rattle.paper.specs.Blocks.{classOf}
 use Rattle.paper.specs.declared.Version.{Version}
 use Rattle.paper.specs.Places.{Entry, absent, listed, entryOf, Place}
-use Rattle.opcodes.specs.Places.{numberBy}
+use Rattle.places.specs.Places.{digits}
 use Rattle.opcodes.specs.Classes.{classNumber}
-
--- a row of places as one number: a digit of base 128 for each, the first place lowest; no place has number 0
-abbrev pub digits : List Place → ℕ
-digits [] = 0
-digits (place ∷ places) = numberBy place + 128 * digits places
 
 -- which rule the controls obey: 0 they are zero, 1 they are 1 to 6, 2 they are 0 to 2
 abbrev pub controlsRule : ℕ → ℕ

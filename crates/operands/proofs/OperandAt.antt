@@ -22,11 +22,11 @@ use Rattle.paper.specs.declared.Taken.{Taken}
 use Rattle.paper.specs.declared.Taken.the-variants.{Took, Refused}
 use Rattle.paper.specs.declared.Operands.the-variants.{Fit, Refused as Unfit}
 use Rattle.paper.specs.Places.{Place, raw, relative}
-use Rattle.opcodes.specs.Places.{placeBy, placesIn, decoded}
+use Rattle.places.specs.Places.{placeBy, placesIn, decoded}
 use Rattle.tokens.proofs.TokenAt.{raw-good, not-free-not-relative}
 use Rattle.operands.specs.Numbered.{takenNumber}
 use Rattle.operands.proofs.Numbers.{on-token-number, taken-pick}
-use Rattle.opcodes.proofs.Shapes.{decoded-zero, decoded-step}
+use Rattle.places.proofs.Decoding.{decoded-zero, decoded-step}
 
 pub relative-none : (v : Version) (offset at : ℕ) (behind : List ℕ) → length behind ≤ at →
     relativeToken v offset (drop at behind) ≡ Refused (refusal SIZE 0)

@@ -5,7 +5,7 @@ ghost use lib.Dec.{eqb};
 ghost use lib.ListN.{length, drop};
 ghost use Rattle.paper.specs.Notation.{bit, pick};
 ghost use Rattle.paper.specs.Instruction.{relativeToken, operand, operands};
-ghost use Rattle.opcodes.specs.Places.{placeBy, decoded};
+ghost use Rattle.places.specs.Places.{placeBy, decoded};
 ghost use Rattle.operands.specs.Numbered.{takenNumber, operandsNumber};
 use paper::Version;
 

@@ -2,6 +2,18 @@
 ghost use mathlib.Core.Path.{_≡_};
 ghost use Rattle.paper.specs.Numbers.{numberOf};
 
+// "fewer than 2 or more than 16,384 tokens"
+pub const FEWEST_TOKENS: usize = 2;
+
+pub const MOST_TOKENS: usize = 16384;
+
+// Opcodes that are judged apart.
+pub const DCL: u32 = 31;
+
+pub const COMMENT: u32 = 0xFFFE;
+
+pub const END: u32 = 0xFFFF;
+
 // "The base knows four versions."
 pub enum Version {
     V2,

@@ -24,7 +24,7 @@ use Rattle.paper.specs.Places.{Place, relative}
 use Rattle.instruction_token.specs.declared.Head.{Head}
 use Rattle.instruction_token.specs.declared.Head.the-variants.{Refused as Broken, End, Comment, Declaration, Operation}
 use Rattle.instruction.specs.Claimed.{judgedBy}
-use Rattle.opcodes.specs.Places.{decoded}
+use Rattle.places.specs.Places.{decoded}
 use Rattle.operands.proofs.OperandAt.{operand-within}
 
 at-operand : (r s : Refusal) → Refused r ≡ Refused s → r .position ≡ s .position

@@ -9,8 +9,8 @@ use lib.Seq.{set-at, drop-drop, getD-drop}
 use Rattle.paper.specs.Notation.{pick}
 use Rattle.paper.specs.OperandTokens.{bringsRelative}
 use Rattle.paper.specs.Places.{Place, isPredicate}
-use Rattle.opcodes.specs.Places.{placeBy, decoded}
-use Rattle.opcodes.proofs.Shapes.{decoded-zero, decoded-step}
+use Rattle.places.specs.Places.{placeBy, decoded}
+use Rattle.places.proofs.Decoding.{decoded-zero, decoded-step}
 use Rattle.records.specs.declared.Operand.{Operand}
 use Rattle.records.specs.Record.{noOperand, operandOf, widthAt, operandAt, inOrder, predicateOr, padded, arrayOf, declaredPlaces}
 use Rattle.records.specs.Encoded.{widthOf, ordered}

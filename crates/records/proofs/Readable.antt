@@ -10,8 +10,8 @@ use Rattle.paper.specs.Instruction.{Head as Said, broken, end, comment, dcl, op
 use Rattle.paper.specs.declared.Version.{Version}
 use Rattle.paper.specs.declared.Class.{Class}
 use Rattle.paper.specs.declared.Judged.the-variants.{Good as Lawful}
-use Rattle.opcodes.specs.Places.{decoded}
-use Rattle.opcodes.specs.Shape.{digits}
+use Rattle.places.specs.Places.{decoded}
+use Rattle.places.specs.Places.{digits}
 use Rattle.instruction_token.specs.Encoded.{encoded, claimOf}
 use Rattle.instruction_token.proofs.Heads.{head-decoded}
 use Rattle.instruction.specs.Claimed.{judgedBy}

@@ -5,7 +5,7 @@ use lib.ListN.{length, drop}
 use Rattle.paper.specs.Notation.{pick}
 use Rattle.paper.specs.InstructionToken.{commentLength}
 use Rattle.paper.specs.Places.{Place, isPredicate}
-use Rattle.opcodes.specs.Places.{decoded}
+use Rattle.places.specs.Places.{decoded}
 use Rattle.instruction_token.specs.declared.Head.{Head}
 use Rattle.instruction_token.specs.declared.Head.the-variants.{Refused, End, Comment, Declaration, Operation}
 use Rattle.records.specs.declared.Record.{Record}

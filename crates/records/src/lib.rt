@@ -4,7 +4,7 @@ ghost use Prim.Native.Nat.{_+_, _≤_};
 ghost use lib.ListN.{length, drop};
 ghost use Rattle.paper.specs.Notation.{pick};
 ghost use Rattle.paper.specs.Places.{isPredicate};
-ghost use Rattle.opcodes.specs.Places.{placeBy, decoded};
+ghost use Rattle.places.specs.Places.{placeBy, decoded};
 ghost use Rattle.records.specs.Record.{rawOperand, destinationOperand, sourceOperand, operandOf, widthAt, operandAt, arrayOf, emptyRecord, noRecord, instructionRecord};
 ghost use Rattle.records.specs.Encoded.{placesOf, recordBy, Readable};
 use instruction_token::Head;

@@ -25,7 +25,7 @@ use Rattle.paper.specs.declared.Class.the-variants.{One}
 use Rattle.paper.specs.declared.Single.the-variants.{Comment as A-comment, Plain}
 use Rattle.paper.specs.declared.Judged.{Judged}
 use Rattle.paper.specs.declared.Judged.the-variants.{Good, Refused as Unfit}
-use Rattle.opcodes.specs.Places.{decoded}
+use Rattle.places.specs.Places.{decoded}
 use Rattle.opcodes.proofs.Shapes.{class-few}
 use Rattle.told.specs.Numbered.{refusalNumber, judgedNumber, judgedFrom}
 use Rattle.instruction_token.specs.declared.Head.{Head}

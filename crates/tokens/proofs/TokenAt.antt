@@ -13,8 +13,8 @@ use Rattle.paper.specs.OperandTokens.{modifierOf, plainModifiers, predicateType
 use Rattle.versions.specs.Sets.{setOf, holds}
 use Rattle.versions.proofs.Sets.{Agrees, set-among}
 use Rattle.versions.proofs.Types.{type-small}
-use Rattle.opcodes.specs.Places.{placeBy}
-use Rattle.opcodes.proofs.Places.{by-place}
+use Rattle.places.specs.Places.{placeBy}
+use Rattle.places.proofs.Places.{by-place}
 use Rattle.paper.specs.Numbers.{toldToken}
 use Rattle.paper.specs.declared.Version.{Version}
 use Rattle.paper.specs.declared.Token.the-variants.{Good}

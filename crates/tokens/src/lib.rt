@@ -5,7 +5,7 @@ ghost use mathlib.Core.List.{[], _∷_};
 ghost use Prim.Native.Nat.{_%_};
 ghost use Rattle.paper.specs.Notation.{among};
 ghost use Rattle.versions.specs.Sets.{holds};
-ghost use Rattle.opcodes.specs.Places.{placeBy};
+ghost use Rattle.places.specs.Places.{placeBy};
 ghost use Rattle.paper.specs.OperandTokens.{typeOf, isFree, laid, typed, layoutThenType, tokenAt, bringsRelative};
 ghost use Rattle.paper.specs.Numbers.{toldToken};
 ghost use Rattle.paper.specs.Places.{freeDestination, freeSource, relative, isRaw};

@@ -1,5 +1,6 @@
 -- What is told of an instruction, as one number, which a machine hands on in a register: a yes is even, a refusal odd.
 use Prim.Native.Nat.{ℕ, _+_, _*_, _/_, _%_}
+use mathlib.Core.Bool.{Bool}
 use lib.Dec.{eqb}
 use Rattle.paper.specs.Notation.{pick}
 use Rattle.paper.specs.Numbers.{numberOf, refusal}
@@ -15,16 +16,33 @@ use Rattle.paper.specs.declared.Class.the-variants.{One, Opens, Closes}
 use Rattle.paper.specs.declared.Judged.{Judged}
 use Rattle.paper.specs.declared.Judged.the-variants.{Good, Refused}
 
--- a refusal's position, and the paper's number of its reason
-abbrev pub refusalNumber : Refusal → ℕ
-refusalNumber r = 32 * (r .position) + (2 * numberOf (r .reason) + 1)
+-- a yes: the tokens that an instruction takes behind its first one, and the number of its class
+abbrev pub yesNumber : ℕ → ℕ → ℕ
+yesNumber size class = 32 * size + 2 * class
 
--- the tokens that an instruction takes behind its first one, and its class; or its refusal
+-- a refusal: the paper's number of its reason, and its position
+abbrev pub faultNumber : ℕ → ℕ → ℕ
+faultNumber number position = 32 * position + (2 * number + 1)
+
+abbrev pub refusalNumber : Refusal → ℕ
+refusalNumber r = faultNumber (numberOf (r .reason)) (r .position)
+
 abbrev pub judgedNumber : Judged → ℕ
-judgedNumber (Good size class) = 32 * size + 2 * classNumber class
+judgedNumber (Good size class) = yesNumber size (classNumber class)
 judgedNumber (Refused r) = refusalNumber r
 
--- back from the number
+-- back from the number: whether it is a refusal's; the size, and a refusal's position; whether it is the yes of a plain instruction, which
+-- has class 1
+abbrev pub isRefusal : ℕ → Bool
+isRefusal told = eqb (told % 2) 1
+
+abbrev pub sizeIn : ℕ → ℕ
+sizeIn told = told / 32
+
+abbrev pub isPlain : ℕ → Bool
+isPlain told = eqb (told % 32) 2
+
+-- the class, and the reason
 abbrev pub classBy : ℕ → Class
 classBy n =
     pick (eqb n 0) (One Comment)
@@ -58,4 +76,4 @@ reasonBy n =
 
 unfoldable pub judgedFrom : ℕ → Judged
 judgedFrom n =
-    pick (eqb (n % 2) 1) (Refused (refusal (reasonBy (n / 2 % 16)) (n / 32))) (Good (n / 32) (classBy (n / 2 % 16)))
+    pick (isRefusal n) (Refused (refusal (reasonBy (n / 2 % 16)) (sizeIn n))) (Good (sizeIn n) (classBy (n / 2 % 16)))

@@ -1,7 +1,7 @@
-// What is told of an instruction, one number, read back: a yes is even, a refusal odd.
+// What is told of an instruction, one number, made and read back: a yes is even, a refusal odd. No other crate knows what its bits are.
 ghost use mathlib.Core.Path.{_≡_};
 ghost use Rattle.paper.specs.Numbers.{toldInstruction};
-ghost use Rattle.told.specs.Numbered.{classBy, reasonBy, judgedFrom};
+ghost use Rattle.told.specs.Numbered.{yesNumber, faultNumber, isRefusal, sizeIn, isPlain, classBy, reasonBy, judgedFrom};
 use paper::Class;
 use paper::Closer;
 use paper::Judged;
@@ -9,6 +9,50 @@ use paper::Opener;
 use paper::Reason;
 use paper::Refusal;
 use paper::Single;
+
+// Behind the lowest bit stands the class or the reason, and above it the size or the position.
+const HALF: u64 = 2;
+
+const KINDS: u64 = 16;
+
+const WHOLE: u64 = HALF * KINDS;
+
+// The class of a plain instruction, as a yes of any size has it.
+const PLAIN: u64 = HALF;
+
+// A yes: so many tokens behind the first, and the number of a class.
+pub fn yes(size: u32, class: u32) -> u64
+    ensures { λ r. ⌜ r ≡ yesNumber size class ⌝ }
+{
+    WHOLE * size as u64 + HALF * class as u64
+}
+
+// A refusal: the number of its reason, and its position from the first token on.
+pub fn refused(number: u32, position: u32) -> u64
+    ensures { λ r. ⌜ r ≡ faultNumber number position ⌝ }
+{
+    WHOLE * position as u64 + (HALF * number as u64 + 1)
+}
+
+pub fn is_refused(told: u64) -> bool
+    ensures { λ r. ⌜ r ≡ isRefusal told ⌝ }
+{
+    told % HALF == 1
+}
+
+// Whether it is a yes for an instruction that neither opens nor closes a block and may stand anywhere.
+pub fn is_plain(told: u64) -> bool
+    ensures { λ r. ⌜ r ≡ isPlain told ⌝ }
+{
+    told % WHOLE == PLAIN
+}
+
+// How many tokens a yes takes behind the first; of a refusal, its position.
+pub fn size_of(told: u64) -> usize
+    ensures { λ r. ⌜ r ≡ sizeIn told ⌝ }
+{
+    (told / WHOLE) as usize
+}
 
 fn class_by(number: u64) -> Class
     ensures { λ r. ⌜ r ≡ classBy number ⌝ }
@@ -55,13 +99,12 @@ fn reason_by(number: u64) -> Reason
 pub fn judged_of(told: u64) -> Judged
     ensures { λ r. ⌜ toldInstruction r ≡ toldInstruction (judgedFrom told) ⌝ }
 {
-    if told % 2 == 1 {
-        let reason = reason_by(told / 2 % 16);
-        return Judged::Refused(Refusal {
-            reason,
-            position: (told / 32) as usize,
-        });
+    if is_refused(told) {
+        let reason = reason_by(told / HALF % KINDS);
+        let position = size_of(told);
+        return Judged::Refused(Refusal { reason, position });
     }
-    let class = class_by(told / 2 % 16);
-    Judged::Good((told / 32) as usize, class)
+    let class = class_by(told / HALF % KINDS);
+    let size = size_of(told);
+    Judged::Good(size, class)
 }

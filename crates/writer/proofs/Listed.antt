@@ -12,7 +12,7 @@ use Rattle.paper.specs.InstructionToken.{commentOpcode, endOpcode, endToken, wi
 use Rattle.paper.specs.declared.Version.{Version}
 use Rattle.paper.specs.Places.{Entry, absent, listed, entryOf, Place}
 use Rattle.opcodes.specs.Shape.{shapeOf}
-use Rattle.opcodes.specs.Places.{decoded}
+use Rattle.places.specs.Places.{decoded}
 use Rattle.opcodes.proofs.Shapes.{shape-absent, shape-zero, shape-places, decoded-digits, few, unpredicated, row-unpredicated}
 use Rattle.records.specs.declared.Operand.{Operand}
 use Rattle.records.specs.declared.Record.{Record}

@@ -13,8 +13,8 @@ use Rattle.paper.specs.Notation.{pick}
 use Rattle.paper.proofs.Below.{both-left, both-right}
 use Rattle.paper.specs.Places.{Place, predicate, isRaw, isPredicate}
 use Rattle.paper.specs.InstructionToken.{withPredicate}
-use Rattle.opcodes.specs.Places.{placeBy, decoded}
-use Rattle.opcodes.proofs.Shapes.{decoded-zero, decoded-step}
+use Rattle.places.specs.Places.{placeBy, decoded}
+use Rattle.places.proofs.Decoding.{decoded-zero, decoded-step}
 use Rattle.records.specs.declared.Operand.{Operand}
 use Rattle.records.specs.Record.{noOperand}
 use Rattle.record_tokens.specs.Tokens.{operandToken, relativeTokenOf, operandTokens, rowTokens}

@@ -8,7 +8,7 @@ ghost use lib.ListN.{length};
 ghost use Rattle.paper.specs.Versions.{versionToken};
 ghost use Rattle.paper.specs.Numbers.{refusal};
 ghost use Rattle.paper.specs.InstructionToken.{commentOpcode};
-ghost use Rattle.opcodes.specs.Places.{placeBy, decoded};
+ghost use Rattle.places.specs.Places.{placeBy, decoded};
 ghost use Rattle.reader.specs.Reading.{reading};
 ghost use Rattle.record_tokens.specs.Tokens.{operandToken, relativeTokenOf, operandTokens, commentToken, tokensOf};
 ghost use Rattle.writer.specs.Same.{sameOperand, sameFields, sameRecord};

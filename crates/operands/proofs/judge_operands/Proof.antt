@@ -3,7 +3,7 @@ use Prim.Native.Nat.{_+_, _*_, _%_, _≤_}
 use native.Mathlib.Omega.{arith}
 use lib.ListN.{length, drop}
 use Rattle.paper.specs.Instruction.{operand, operands}
-use Rattle.opcodes.specs.Places.{placeBy, decoded}
+use Rattle.places.specs.Places.{placeBy, decoded}
 use Rattle.operands.specs.Numbered.{operandsNumber}
 use Rattle.operands.proofs.OperandAt.{operand-within, operand-few, decoded-few, decoded-less, operands-on, operands-refused, operands-fit, operands-over}
 use Rattle.operands.proofs.Numbers.{taken-even, taken-odd}

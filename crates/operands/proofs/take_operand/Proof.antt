@@ -6,9 +6,9 @@ use Rattle.paper.specs.OperandTokens.{tokenAt}
 use Rattle.paper.specs.Places.{freeSource, freeDestination}
 use Rattle.operands.proofs.OperandAt.{operand-none, free-number, typed-number, raw-number}
 use Rattle.operands.proofs.Numbers.{token-few}
-use Rattle.opcodes.specs.Places.{placeBy}
-use Rattle.opcodes.proofs.Places.{raw-place, free-destination-place, free-source-place}
-use Rattle.opcodes.proofs.PlaceKinds.{not-free}
+use Rattle.places.specs.Places.{placeBy}
+use Rattle.places.proofs.Places.{raw-place, free-destination-place, free-source-place}
+use Rattle.places.proofs.PlaceKinds.{not-free}
 use borrow.Author.Needs.{needs}
 use Rattle.operands.proofs.take_operand.Statement.{statement}
 use Rattle.operands.proofs.take_operand.Tie as tie

@@ -1,6 +1,6 @@
 use borrow.Author.Tests.{eq-eqb, ne-eqb}
 use borrow.Author.Needs.{needs}
-use Rattle.opcodes.proofs.PlaceKinds.{predicate-by}
+use Rattle.places.proofs.PlaceKinds.{predicate-by}
 use Rattle.records.proofs.count_with.Statement.{statement}
 use Rattle.records.proofs.count_with.Tie as tie
 

@@ -1,7 +1,7 @@
 use borrow.Author.Tests.{eq-eqb, ne-eqb}
 use mathlib.Core.Path.{_∙_}
 use Rattle.records.specs.Record.{operandOf}
-use Rattle.opcodes.proofs.PlaceKinds.{raw-by, destination-by}
+use Rattle.places.proofs.PlaceKinds.{raw-by, destination-by}
 use borrow.Author.Needs.{needs}
 use Rattle.records.proofs.operand_of.Statement.{statement}
 use Rattle.records.proofs.operand_of.Tie as tie

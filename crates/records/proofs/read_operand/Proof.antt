@@ -2,7 +2,7 @@ use mathlib.Core.Path.{sym, _∙_}
 use lib.ListN.{drop}
 use native.Mathlib.Omega.{arith}
 use Rattle.records.proofs.Filled.{width-some, width-one, width-two, operand-one, operand-two}
-use Rattle.opcodes.specs.Places.{placeBy}
+use Rattle.places.specs.Places.{placeBy}
 use borrow.Author.Needs.{needs}
 use Rattle.records.proofs.read_operand.Statement.{statement}
 use Rattle.records.proofs.read_operand.Tie as tie

@@ -3,7 +3,7 @@ use Prim.Native.Nat.{_+_, _≤_}
 use lib.ListN.{length, drop}
 use native.Mathlib.Omega.{arith}
 use borrow.Author.Needs.{needs}
-use Rattle.opcodes.specs.Places.{decoded}
+use Rattle.places.specs.Places.{decoded}
 use Rattle.records.specs.Record.{arrayOf}
 use Rattle.records.specs.Encoded.{widthOf, ordered}
 use Rattle.records.proofs.Filled.{filled, filled-array, filled-none, filled-on, width-first, slot-fits, held-few, held-on}

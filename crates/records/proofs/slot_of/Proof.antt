@@ -1,5 +1,5 @@
 use borrow.Author.Tests.{eq-eqb, ne-eqb}
-use Rattle.opcodes.proofs.PlaceKinds.{predicate-by}
+use Rattle.places.proofs.PlaceKinds.{predicate-by}
 use Rattle.records.proofs.slot_of.Statement.{statement}
 use Rattle.records.proofs.slot_of.Tie as tie
 

@@ -1,5 +1,5 @@
 use mathlib.Core.Path.{sym}
-use Rattle.opcodes.proofs.PlaceKinds.{raw-by}
+use Rattle.places.proofs.PlaceKinds.{raw-by}
 use Rattle.tokens.proofs.is_raw.Statement.{statement}
 use Rattle.tokens.proofs.is_raw.Tie as tie
 

@@ -2,9 +2,9 @@ use mathlib.Core.Path.{sym, _∙_, ap}
 use borrow.Author.Needs.{needs}
 use Rattle.paper.specs.OperandTokens.{tokenAt}
 use Rattle.paper.specs.Numbers.{toldToken}
-use Rattle.opcodes.specs.Places.{placeBy}
-use Rattle.opcodes.proofs.Places.{free-source-place, free-destination-place}
-use Rattle.opcodes.proofs.PlaceKinds.{not-free}
+use Rattle.places.specs.Places.{placeBy}
+use Rattle.places.proofs.Places.{free-source-place, free-destination-place}
+use Rattle.places.proofs.PlaceKinds.{not-free}
 use Rattle.tokens.proofs.TokenAt.{raw-good}
 use Rattle.tokens.proofs.judge_token.Statement.{statement}
 use Rattle.tokens.proofs.judge_token.Tie as tie

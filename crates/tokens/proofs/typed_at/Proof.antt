@@ -2,7 +2,7 @@ use Prim.Native.Nat.{_%_, _<_}
 use mathlib.Core.Path.{sym, _∙_}
 use native.Mathlib.Omega.{arith}
 use borrow.Author.Needs.{needs}
-use Rattle.opcodes.proofs.Places.{killed-place, condition-place, predicate-place, relative-place, declared-place}
+use Rattle.places.proofs.Places.{killed-place, condition-place, predicate-place, relative-place, declared-place}
 use Rattle.tokens.proofs.TokenAt.{one-type, killed-types, predicate-types}
 use Rattle.tokens.proofs.typed_at.Statement.{statement}
 use Rattle.tokens.proofs.typed_at.Tie as tie

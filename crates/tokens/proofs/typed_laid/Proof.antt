@@ -1,7 +1,7 @@
 use mathlib.Core.Path.{_∙_}
 use native.Mathlib.Omega.{arith}
 use borrow.Author.Needs.{needs}
-use Rattle.opcodes.proofs.Places.{predicate-place, relative-place}
+use Rattle.places.proofs.Places.{predicate-place, relative-place}
 use Rattle.tokens.proofs.TokenAt.{typed-destination-at, typed-source-at}
 use Rattle.tokens.proofs.typed_laid.Statement.{statement}
 use Rattle.tokens.proofs.typed_laid.Tie as tie

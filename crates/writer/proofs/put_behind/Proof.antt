@@ -1,8 +1,8 @@
 use mathlib.Core.Bool.{true}
 use native.Mathlib.Omega.{arith}
-use Rattle.opcodes.specs.Places.{decoded}
+use Rattle.places.specs.Places.{decoded}
 use Rattle.writer.proofs.Row.{order-within, row-start, predicate-fits, behind-size, behind-put, behind-false, behind-few}
-use Rattle.opcodes.proofs.Places.{predicate-place}
+use Rattle.places.proofs.Places.{predicate-place}
 use borrow.Author.Needs.{needs}
 use Rattle.writer.proofs.put_behind.Statement.{statement}
 use Rattle.writer.proofs.put_behind.Tie as tie

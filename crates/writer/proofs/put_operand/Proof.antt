@@ -4,8 +4,8 @@ use lib.ListN.{length, length-set, length-drop}
 use Rattle.record_tokens.specs.Tokens.{operandTokens}
 use Rattle.writer.proofs.Paste.{words-length, part-end, stored-words, two-words, length-front}
 use Rattle.writer.proofs.Row.{raw-operand, two-operand, one-operand, operand-some}
-use Rattle.opcodes.specs.Places.{placeBy}
-use Rattle.opcodes.proofs.PlaceKinds.{raw-by}
+use Rattle.places.specs.Places.{placeBy}
+use Rattle.places.proofs.PlaceKinds.{raw-by}
 use borrow.Author.Needs.{needs}
 use Rattle.writer.proofs.put_operand.Statement.{statement}
 use Rattle.writer.proofs.put_operand.Tie as tie

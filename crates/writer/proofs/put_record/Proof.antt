@@ -3,7 +3,7 @@ use mathlib.Core.Path.{_≡_, refl, sym, ap}
 use mathlib.Core.Bool.{Bool}
 use mathlib.Core.List.{List, []}
 use lib.Dec.{eqb}
-use Rattle.opcodes.specs.Places.{decoded}
+use Rattle.places.specs.Places.{decoded}
 use Rattle.opcodes.specs.Shape.{shapeOf}
 use Rattle.record_tokens.specs.Tokens.{tokensOf}
 use Rattle.writer.specs.Row.{behindTokens}

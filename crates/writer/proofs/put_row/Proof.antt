@@ -3,7 +3,7 @@ use native.Mathlib.Omega.{arith}
 use mathlib.Core.Path.{_≡_, refl, ap, _∙_}
 use mathlib.Core.List.{[]}
 use lib.ListN.{length, drop}
-use Rattle.opcodes.specs.Places.{decoded}
+use Rattle.places.specs.Places.{decoded}
 use Rattle.writer.specs.Buffer.{wordsOf, pasted, onFront}
 use Rattle.writer.specs.Row.{orderTokens}
 use Rattle.writer.proofs.Paste.{pasted-front, written-all}

@@ -9,12 +9,12 @@ use lib.Dec.{eqb}
 use lib.ListN.{length}
 use lib.Pow.{pow-add}
 use borrow.Author.Tests.{eq-eqb, ne-eqb}
-use Rattle.opcodes.specs.Shape.{digits}
-use Rattle.opcodes.specs.Places.{placeBy, numberBy, placesIn, decoded}
+use Rattle.places.specs.Places.{digits}
+use Rattle.places.specs.Places.{placeBy, numberBy, placesIn, decoded}
 use Rattle.paper.proofs.Below.{both-left, both-right}
 use Rattle.paper.specs.Places.{Place, predicate}
 use Rattle.paper.specs.InstructionToken.{withPredicate}
-use Rattle.opcodes.proofs.Places.{isPlace, number-small, number-some, place-back}
+use Rattle.places.proofs.Places.{isPlace, number-small, number-some, place-back}
 
 abbrev pub arePlaces : List Place → Bool
 arePlaces [] = true

@@ -1,5 +1,5 @@
 -- The places of operands by number, as the code holds them, and those of a shape read back from its number one after the other.
-use Prim.Native.Nat.{ℕ, zero, suc, _+_, _/_, _%_}
+use Prim.Native.Nat.{ℕ, zero, suc, _+_, _*_, _/_, _%_}
 use mathlib.Core.List.{List, [], _∷_}
 use lib.Dec.{eqb}
 use Rattle.paper.specs.Notation.{pick}
@@ -37,7 +37,12 @@ numberBy condition = 92
 numberBy predicate = 93
 numberBy relative = 94
 
--- at most so many places; no place has number 0, so that 0 says there is none left
+-- a row of places as one number: a digit of base 128 for each, the first place lowest; no place has number 0
+abbrev pub digits : List Place → ℕ
+digits [] = 0
+digits (place ∷ places) = numberBy place + 128 * digits places
+
+-- read back: at most so many places; no place has number 0, so that 0 says there is none left
 abbrev pub placesIn : ℕ → ℕ → List Place
 placesIn zero p = []
 placesIn (suc f) p = pick (eqb p 0) [] (placeBy (p % 128) ∷ placesIn f (p / 128))

@@ -6,8 +6,8 @@ use lib.Dec.{eqb}
 use borrow.Author.Tests.{eq-eqb, ne-eqb}
 use Rattle.paper.specs.Places.{isRaw, isDestination, isPredicate}
 use Rattle.paper.specs.OperandTokens.{isFree}
-use Rattle.opcodes.specs.Places.{placeBy}
-use Rattle.opcodes.proofs.Places.{by-place}
+use Rattle.places.specs.Places.{placeBy}
+use Rattle.places.proofs.Places.{by-place}
 
 pub raw-by : (n : ℕ) → isRaw (placeBy n) ≡ eqb n 1 || eqb n 2
 raw-by =

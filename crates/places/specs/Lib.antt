@@ -1,0 +1,2 @@
+-- The places of operands by number, as the code holds them.
+pub mod Places
