@@ -12,7 +12,7 @@ use Rattle.paper.specs.Walk.{counts}
 use Rattle.paper.specs.declared.Class.{Class}
 use Rattle.paper.specs.declared.Class.the-variants.{One}
 use Rattle.paper.specs.declared.Single.the-variants.{Plain}
-use Rattle.paper.proofs.Below.{both-left, both-right}
+use Rattle.paper.proofs.Bools.{both-left, both-right}
 use Rattle.blocks.specs.Begins.{endsStream}
 use Rattle.blocks.proofs.Derived.{never}
 use Rattle.blocks.proofs.Counting.{counts-add}
@@ -32,7 +32,7 @@ module _ (rule : Class → Bool) where
       picked (among opcode (row .opcodes)) (row .class) (classAmong rows opcode) (both-left (rule (row .class)) (every rows) t)
       (among-rows rows (both-right (rule (row .class)) (every rows) t) opcode)
 
-  class-has : every classes ≡ true → (opcode : ℕ) → rule (classOf opcode) ≡ true
+  pub class-has : every classes ≡ true → (opcode : ℕ) → rule (classOf opcode) ≡ true
   unfolding classOf
   class-has t opcode = among-rows classes t opcode
 

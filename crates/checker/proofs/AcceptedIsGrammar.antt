@@ -17,7 +17,7 @@ use Rattle.blocks.proofs.WalkIsGrammar.{accepts, accepted}
 use Rattle.blocks.specs.Nesting.{countOf}
 use Rattle.blocks.proofs.Counting.{walked-nesting}
 use Rattle.checker.specs.Accepted.{Grammatical}
-use Rattle.checker.proofs.Whole.{verdict-length, verdict-version, verdict-walked}
+use Rattle.paper.proofs.StreamVerdict.{verdict-length, verdict-version, verdict-walked}
 use Rattle.paper.proofs.OneToOne.{same-verdict}
 
 unlike : {A : Type 0} {r : Refusal} {n : ℕ} → Refused r ≡ Accepted n → A

@@ -14,7 +14,8 @@ use Rattle.paper.specs.declared.Refusal.{Refusal}
 use Rattle.blocks.specs.Descent.{onItem, bodyOf}
 use Rattle.blocks.proofs.Unfold.{body-out, body-wrong, body-then}
 use Rattle.blocks.specs.Nesting.{countOf}
-use Rattle.stretches.specs.Stretch.{toldAt, isPlain, nextAt, PlainTo, here, past}
+use Rattle.stretches.specs.Stretch.{toldAt, nextAt, PlainTo, here, past}
+use Rattle.told.specs.Numbered.{isPlain}
 use Rattle.stretches.proofs.Stretches.{plain-from}
 use Rattle.checker.specs.declared.BodyEnd.the-variants.{Stopped, Broken}
 use Rattle.checker.specs.declared.ItemEnd.{ItemEnd}

@@ -1,5 +1,5 @@
 -- The ways in which an item ends: one instruction, a block, a closer, a refusal.
-use Prim.Native.Nat.{ℕ, zero, suc, _+_, _<_, _≤_}
+use Prim.Native.Nat.{ℕ, zero, suc, _+_, _-_, _<_, _≤_}
 use mathlib.Core.Path.{_≡_, refl, ap, sym, subst, _∙_}
 use mathlib.Core.Bool.{Bool, true, false}
 use mathlib.Core.List.{List, []}
@@ -37,7 +37,8 @@ use Rattle.stretches.proofs.Stretches.{told-whole}
 use Rattle.checker.specs.declared.ItemEnd.{ItemEnd}
 use Rattle.checker.specs.declared.ItemEnd.the-variants.{Passed, Closer as Closed, Refused}
 use Rattle.checker.specs.Ends.{itemAt, StartsAt, Onward, ItemIs, BlockIs, tallyOf}
-use Rattle.checker.proofs.Within.{Within, judged-within}
+use Rattle.paper.proofs.OwnTokens.{good-inside as ends-inside}
+use Rattle.paper.proofs.OneInstruction.{Near, Within, judged-near}
 
 pub zero-test : (n : ℕ) → eqb n 0 ≡ isZero n
 zero-test zero = refl
@@ -84,9 +85,7 @@ module _ (v : Version) {s : List ℕ} {depth at m told : ℕ} (begun : StartsAt 
   -- an instruction that is good by itself
   module _ {size : ℕ} {class : Class} (f : j ≡ Good size class) where
     pub good-inside : at + 1 + size ≤ length s
-    good-inside =
-        let fits : size < length (drop at s) = subst (Within (length (drop at s))) (sym judged-at ∙ f) (judged-within v (drop at s)) in
-        omega (arith, begun .0 .starts, length-drop at s)
+    good-inside = omega (arith, ends-inside size class v s at (sym judged-at ∙ f))
 
     cut : cutFrom v s at ≡ then class at (cutFrom v s (at + 1 + size))
     cut =
@@ -166,7 +165,7 @@ module _ (v : Version) {s : List ℕ} {depth at m told : ℕ} (begun : StartsAt 
   module _ {r : Refusal} (f : j ≡ Wrong r) where
     pub wrong-inside : at + r .position ≤ length s
     wrong-inside =
-        let fits : r .position ≤ length (drop at s) = subst (Within (length (drop at s))) (sym judged-at ∙ f) (judged-within v (drop at s)) in
+        let fits : r .position ≤ length (drop at s) - 1 = subst (Within (Near (length (drop at s))) (length (drop at s))) (sym judged-at ∙ f) (judged-near v (drop at s)) in
         omega (arith, begun .0 .starts, length-drop at s)
 
     wrong-cut : (inLoop test : Bool) → ltb at (length s) ≡ test →

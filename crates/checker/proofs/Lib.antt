@@ -1,5 +1,4 @@
 -- What the check of a stream promises, and the laws behind it.
-pub mod Within
 pub mod ItemEnds
 pub mod BodyEnds
 pub mod BlockEnds

@@ -74,24 +74,3 @@ module _ {v : Version} {s : List ℕ} {r : BodyEnd} (h : BodyIs v s 0 false 1 0 
 
   pub stream-broken : {f : Refusal} → r ≡ Broken f → Refused f ≡ walked v s
   stream-broken e = ap (onStream (countOf (cutFrom v s 1))) (ap (bodyEnd v s) (sym e) ∙ h .is) ∙ whole v s
-
--- the length, and the version that the first token names
-both-left : (a b : Bool) → a && b ≡ true → a ≡ true
-both-left true b e = refl
-both-left false b e = e
-
-pub laid-two : (n : ℕ) → lengthLaid n ≡ true → 2 ≤ n
-laid-two n e = leb-true 2 n (both-left (leb 2 n) (leb n 16384) e)
-
-module _ (s : List ℕ) where
-  pub verdict-length : lengthLaid (length s) ≡ false → verdict s ≡ Refused (refusal LENGTH 0)
-  unfolding verdict
-  verdict-length e = rw e
-
-  pub verdict-version : lengthLaid (length s) ≡ true → named (getD s 0 0) ≡ Unknown → verdict s ≡ Refused (refusal VERSION 0)
-  unfolding verdict
-  verdict-version e f = rw (e, f)
-
-  pub verdict-walked : (v : Version) → lengthLaid (length s) ≡ true → named (getD s 0 0) ≡ Known v → verdict s ≡ walked v s
-  unfolding verdict
-  verdict-walked v e f = rw (e, f)

@@ -22,11 +22,6 @@ use paper::Version;
 // "At most 24 blocks are open."
 const MOST_OPEN: usize = 24;
 
-// "fewer than 2 or more than 16,384 tokens"
-const FEWEST_TOKENS: usize = 2;
-
-const MOST_TOKENS: usize = 16384;
-
 // The closers, by the numbers of the definition of the walk.
 const ELSE: u32 = 0;
 
@@ -281,7 +276,7 @@ fn check_behind(version: Version, tokens: &[u32]) -> Verdict
 pub fn check(tokens: &[u32]) -> Verdict
     ensures { λ r. ⌜ told r ≡ checked (now (tokens .entry)) ⌝ }
 {
-    if (FEWEST_TOKENS <= tokens.len()) & (tokens.len() <= MOST_TOKENS) {
+    if (paper::FEWEST_TOKENS <= tokens.len()) & (tokens.len() <= paper::MOST_TOKENS) {
         let named = versions::version_of(tokens[0]);
         return match named {
             Named::Known(version) => check_behind(version, tokens),

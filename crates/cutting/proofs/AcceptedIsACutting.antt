@@ -30,7 +30,8 @@ use Rattle.blocks.proofs.WalkIsGrammar.{accepts, accepted}
 use Rattle.blocks.specs.Nesting.{countOf}
 use Rattle.blocks.proofs.Counting.{walked-nesting}
 use Rattle.cutting.specs.Cuttings.{joined, Alone, Chunks, last, next, Cutting, cutOf, instructions, LawfulStream}
-use Rattle.cutting.proofs.OwnTokens.{apart, good-within, good-alone}
+use Rattle.paper.proofs.Bools.{apart}
+use Rattle.paper.proofs.OwnTokens.{good-within, good-alone}
 
 -- the cut of the chunks of a cutting is the cutting's
 

@@ -1,6 +1,4 @@
 -- The theorems about one instruction and its own tokens, and about the one way to cut a stream.
-pub mod FirstToken
-pub mod OwnTokens
 pub mod EndToken
 pub mod CutBy
 pub mod OneCutting

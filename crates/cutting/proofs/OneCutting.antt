@@ -3,13 +3,12 @@ use Prim.Native.Nat.{ℕ}
 use mathlib.Core.Path.{_≡_, refl, sym, _∙_, ap₂}
 use mathlib.Core.List.{List, [], _∷_}
 use lib.ListN.{length}
-use Rattle.paper.specs.Instruction.{tokenHead}
+use Rattle.paper.specs.Instruction.{tokenHead, claim}
 use Rattle.paper.specs.declared.Version.{Version}
 use Rattle.paper.specs.declared.Class.{Class}
 use Rattle.paper.specs.declared.Judged.the-variants.{Good}
-use Rattle.cutting.specs.Claim.{claim}
 use Rattle.cutting.specs.Cuttings.{Alone, Chunks, last, next, Cutting}
-use Rattle.cutting.proofs.OwnTokens.{good-claim}
+use Rattle.paper.proofs.OwnTokens.{good-claim}
 use Rattle.cutting.proofs.CutBy.{cut-by}
 
 -- a chunk has one class
@@ -31,6 +30,6 @@ same-classes {v} (next {first = first} {rest = rest} {class = c} e notEnd tail) 
 pub one-cutting : (v : Version) (tokens : List ℕ) (chunks others : List (List ℕ)) (classes kinds : List Class) →
     Cutting v tokens chunks classes → Cutting v tokens others kinds → (chunks ≡ others) × (classes ≡ kinds)
 one-cutting v tokens chunks others classes kinds c d =
-    let by = cut-by v (λ first rest. claim (tokenHead v first)) (λ first rest other class alone. good-claim (length rest) class v first rest alone .0) tokens in
+    let by = cut-by v (λ first rest. claim (tokenHead v first)) (λ first rest other class alone. good-claim (length rest) class v first rest alone .claims) tokens in
     let same : chunks ≡ others = sym (by chunks classes c) ∙ by others kinds d in
     (same, same-classes (rw same at (c .0)) (d .0))

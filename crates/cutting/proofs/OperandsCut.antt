@@ -3,31 +3,32 @@ use Prim.Native.Nat.{ℕ, suc, _+_}
 use mathlib.Core.Path.{_≡_, refl, ap, sym}
 use mathlib.Core.Bool.{Bool, true, false}
 use mathlib.Core.List.{List, [], _∷_, _++_}
-use lib.ListN.{length, take, drop}
+use lib.Dec.{eqb}
+use lib.ListN.{length, drop}
 use lib.Seq.{take-length}
+use borrow.Author.Tests.{eq-eqb}
 use Rattle.paper.specs.Notation.{pick}
-use Rattle.paper.specs.InstructionToken.{opcodeOf, statedSize, isPredicated, withPredicate}
+use Rattle.paper.specs.InstructionToken.{opcodeOf, commentOpcode, isPredicated, withPredicate}
 use Rattle.paper.specs.OperandTokens.{tokenAt, bringsRelative, typeOf, leftOver, refusedOperands}
 use Rattle.paper.specs.Dcl.{declaration, declaredAt, usageLaid, onDeclared}
-use Rattle.paper.specs.Instruction.{onToken, relativeToken, operand, onTaken, operands, onOperands, within, byHead, judged}
-use Rattle.paper.specs.Blocks.{classOf}
+use Rattle.paper.specs.Instruction.{claimed, Head, tokenHead, onToken, relativeToken, operand, onTaken, operands, claim, onClaimed}
+use Rattle.paper.specs.OpcodeTable.{DCL}
+use Rattle.paper.proofs.Bools.{apart}
+use Rattle.paper.proofs.FirstToken.{other-not-end, Says, is-broken, is-comment, is-end, is-listed, says}
 use Rattle.paper.specs.declared.Version.{Version}
 use Rattle.paper.specs.declared.Reason.the-variants.{Operand as OPERAND}
 use Rattle.paper.specs.declared.Token.{Token}
 use Rattle.paper.specs.declared.Token.the-variants.{Good as good, Bad as bad}
 use Rattle.paper.specs.declared.Taken.the-variants.{Took as took}
-use Rattle.paper.specs.declared.Operands.{Operands}
 use Rattle.paper.specs.declared.Operands.the-variants.{Fit}
 use Rattle.paper.specs.declared.Class.{Class}
 use Rattle.paper.specs.declared.Judged.the-variants.{Good}
 use Rattle.paper.specs.Stream.{verdict}
 use Rattle.paper.specs.declared.Verdict.the-variants.{Accepted}
 use Rattle.paper.specs.Places.{Place, relative}
-use Rattle.cutting.specs.Claim.{claim}
 use Rattle.cutting.specs.Cuttings.{Alone, Cutting}
 use Rattle.cutting.specs.ByOperands.{placesTake, byPlaces, byOperands}
-use Rattle.cutting.proofs.OwnTokens.{apart, good-claim, good-operands}
-use Rattle.cutting.proofs.FirstToken.{by-first}
+use Rattle.paper.proofs.OwnTokens.{operands-good, good-claim}
 use Rattle.cutting.proofs.CutBy.{cut-by}
 use Rattle.cutting.proofs.AcceptedIsACutting.{accepted-is-a-cutting}
 
@@ -73,28 +74,26 @@ declared-two v (u ∷ []) e = apart (cc)
 declared-two v (u ∷ (d ∷ rest)) e = ap (λ (n : ℕ). suc (suc n)) (sym (two (declaredAt v d) (usageLaid v (typeOf d) u) rest e))
 
 -- what the operands of a lawful instruction take is its tokens, whatever stands behind them
-places-right : (v : Version) (first : ℕ) (rest other : List ℕ) (class : Class) → Alone v first rest class →
-    byPlaces v first (rest ++ other) ≡ length rest
-unfolding judged
-places-right v first rest other class alone =
-    by-first v first
-    (λ h. byHead v h (classOf (opcodeOf first)) rest ≡ Good (length rest) class → claim h ≡ length rest →
-    byPlaces v first (rest ++ other) ≡ length rest)
-    (λ reason e k. apart (cc))
-    (λ c n e k. rw c k)
-    (λ c n e k. rw (c, n) k)
-    (λ c n d e k. rw (c, n, d) (declared-two v rest (fits (λ tokens. declaration v tokens) k e)))
-    (λ places c n d l e k.
-    rw (c, n, d, l) (places-take v (withPredicate (isPredicated first) places) 1 rest other (fits (λ tokens. operands v (withPredicate (isPredicated first) places) 1 tokens) k e)))
-    alone (good-claim (length rest) class v first rest alone .0)
-  where
-    fits : (answer : List ℕ → Operands) → statedSize first ≡ length rest →
-        within (statedSize first) rest (onOperands (answer (take (statedSize first) rest)) (statedSize first) (classOf (opcodeOf first)))
-        ≡ Good (length rest) class →
-        answer rest ≡ Fit
-    fits answer k e =
-        let all : take (statedSize first) rest ≡ rest = rw (k, take-length rest) in
-        rw all at (good-operands (length rest) class (answer (take (statedSize first) rest)) (statedSize first) (classOf (opcodeOf first)) rest e .1)
+module _ (v : Version) (first : ℕ) (rest other : List ℕ) (class : Class) where
+  by-kind : (isDcl : Bool) (places : List Place) → pick isDcl (declaration v rest) (operands v places 1 rest) ≡ Fit →
+      pick isDcl 2 (placesTake places (rest ++ other)) ≡ length rest
+  by-kind true places e = declared-two v rest e
+  by-kind false places e = places-take v places 1 rest other e
+
+  by-head : (h : Head) → Says v first h → claim h ≡ length rest → onClaimed v h (opcodeOf first) rest ≡ Good (length rest) class →
+      byPlaces v first (rest ++ other) ≡ length rest
+  by-head h (is-broken b) k e = apart (cc)
+  by-head h (is-comment o l) k e = rw (eq-eqb (opcodeOf first) commentOpcode o) k
+  by-head h (is-end n) k e = rw n k
+  by-head h (is-listed {places} o l b) k e =
+      let row = withPredicate (isPredicated first) places in
+      rw (o .no-comment, other-not-end o, l)
+      (by-kind (eqb (opcodeOf first) DCL) row (operands-good (length rest) class v (opcodeOf first) row (claimed v first places) rest e .0))
+
+  places-right : Alone v first rest class → byPlaces v first (rest ++ other) ≡ length rest
+  places-right alone =
+      let g = good-claim (length rest) class v first rest alone in
+      by-head (tokenHead v first) (says v first) (g .claims) (rw (take-length rest) at (g .good))
 
 -- cutting by operands alone gives the chunks of a cutting
 pub operands-cut : (v : Version) (tokens : List ℕ) (chunks : List (List ℕ)) (classes : List Class) → Cutting v tokens chunks classes →

@@ -2,36 +2,36 @@
 use Prim.Native.Nat.{ℕ}
 use mathlib.Core.Path.{_≡_, _∙_}
 use mathlib.Core.List.{List, _++_}
-use lib.ListN.{length, drop}
-use Rattle.paper.specs.InstructionToken.{opcodeOf}
-use Rattle.paper.specs.Instruction.{byHead, judged}
-use Rattle.paper.specs.Blocks.{classOf}
+use lib.ListN.{length, take, drop}
+use borrow.Author.Tests.{eq-eqb}
+use Rattle.paper.specs.InstructionToken.{opcodeOf, commentOpcode}
+use Rattle.paper.specs.Instruction.{Head, tokenHead, claim, onClaimed}
 use Rattle.paper.specs.declared.Version.{Version}
 use Rattle.paper.specs.declared.Class.{Class}
 use Rattle.paper.specs.declared.Judged.the-variants.{Good}
 use Rattle.paper.specs.Stream.{verdict}
 use Rattle.paper.specs.declared.Verdict.the-variants.{Accepted}
-use Rattle.cutting.specs.Claim.{claim}
+use Rattle.paper.proofs.Bools.{apart}
+use Rattle.paper.proofs.FirstToken.{other-not-end, Says, is-broken, is-comment, is-end, is-listed, says}
 use Rattle.cutting.specs.Cuttings.{Alone, Cutting}
 use Rattle.cutting.specs.BySize.{byStatedSize, bySizes}
-use Rattle.cutting.proofs.OwnTokens.{apart, good-claim}
-use Rattle.cutting.proofs.FirstToken.{by-first}
+use Rattle.paper.proofs.OwnTokens.{good-claim}
 use Rattle.cutting.proofs.CutBy.{cut-by}
 use Rattle.cutting.proofs.AcceptedIsACutting.{accepted-is-a-cutting}
 
 -- the stated size of a lawful instruction is that of its tokens, whatever stands behind them
-size-right : (v : Version) (first : ℕ) (rest other : List ℕ) (class : Class) → Alone v first rest class →
-    byStatedSize first (rest ++ other) ≡ length rest
-unfolding judged
-size-right v first rest other class alone =
-    by-first v first
-    (λ h. byHead v h (classOf (opcodeOf first)) rest ≡ Good (length rest) class → byStatedSize first (rest ++ other) ≡ claim h)
-    (λ reason e. apart (cc))
-    (λ c n e. rw c)
-    (λ c n e. rw (c, n))
-    (λ c n d e. rw (c, n))
-    (λ places c n d l e. rw (c, n)) alone
-    ∙ good-claim (length rest) class v first rest alone .0
+module _ (v : Version) (first : ℕ) (rest other : List ℕ) (class : Class) where
+  by-head : (h : Head) → Says v first h → (behind : List ℕ) → onClaimed v h (opcodeOf first) behind ≡ Good (length rest) class →
+      byStatedSize first (rest ++ other) ≡ claim h
+  by-head h (is-broken b) behind e = apart (cc)
+  by-head h (is-comment o l) behind e = rw (eq-eqb (opcodeOf first) commentOpcode o)
+  by-head h (is-end n) behind e = rw n
+  by-head h (is-listed o l b) behind e = rw (o .no-comment, other-not-end o)
+
+  size-right : Alone v first rest class → byStatedSize first (rest ++ other) ≡ length rest
+  size-right alone =
+      let g = good-claim (length rest) class v first rest alone in
+      by-head (tokenHead v first) (says v first) (take (length rest) rest) (g .good) ∙ g .claims
 
 -- cutting by stated sizes alone gives the chunks of a cutting
 pub sizes-cut : (v : Version) (tokens : List ℕ) (chunks : List (List ℕ)) (classes : List Class) → Cutting v tokens chunks classes →

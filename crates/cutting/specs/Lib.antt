@@ -1,5 +1,4 @@
--- What an instruction claims; the cuttings of a stream; cutting by a rule, by stated sizes alone, by operands alone.
-pub mod Claim
+-- The cuttings of a stream; cutting by a rule, by stated sizes alone, by operands alone.
 pub mod Cuttings
 pub mod CutBy
 pub mod BySize

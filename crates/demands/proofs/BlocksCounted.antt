@@ -18,7 +18,7 @@ use Rattle.paper.specs.declared.Opener.the-variants.{If, Loop, Rep}
 use Rattle.paper.specs.declared.Closer.{Closer}
 use Rattle.paper.specs.declared.Closer.the-variants.{Else, EndIf, EndLoop, EndRep, End}
 use Rattle.blocks.proofs.Refused.{step-reason}
-use Rattle.cutting.proofs.OwnTokens.{apart}
+use Rattle.paper.proofs.Bools.{apart}
 use Rattle.demands.specs.Nesting.{closesOne, blocksOpened, blocksClosed}
 
 -- a test that lets the walk go on

@@ -27,7 +27,7 @@ use Rattle.blocks.proofs.Cutting.{cut-at}
 use Rattle.blocks.proofs.Reach.{reaches-on, reaches-leads}
 use Rattle.blocks.proofs.Refused.{open-append, begins-none}
 use Rattle.cutting.specs.Cuttings.{joined, Chunks, last, next, Cutting, LawfulStream}
-use Rattle.cutting.proofs.OwnTokens.{apart}
+use Rattle.paper.proofs.Bools.{apart}
 use Rattle.cutting.proofs.AcceptedIsACutting.{accepted-is-a-cutting}
 use Rattle.checker.proofs.AcceptedIsGrammar.{accepted-is-grammar}
 use Rattle.edit.specs.Boundaries.{standingAt, isBoundary}

@@ -8,8 +8,8 @@ use lib.ListN.{length, take, drop, length-append}
 use lib.Seq.{drop-drop, take-append-le}
 use borrow.Author.Tests.{eqb-true, eqb-false}
 use Rattle.paper.specs.Versions.{versionToken}
-use Rattle.paper.specs.InstructionToken.{opcodeOf, endOpcode, endToken}
-use Rattle.paper.specs.Instruction.{Head, broken, end, comment, dcl, operation, tokenHead, byHead, judged}
+use Rattle.paper.specs.InstructionToken.{opcodeOf, commentLength, endOpcode, endToken}
+use Rattle.paper.specs.Instruction.{Head, tokenHead, claim, onClaimed, judged}
 use Rattle.paper.specs.Blocks.{classOf}
 use Rattle.paper.specs.Stream.{mostTokens}
 use Rattle.paper.specs.declared.Version.{Version}
@@ -19,15 +19,14 @@ use Rattle.paper.specs.declared.Single.the-variants.{Comment}
 use Rattle.paper.specs.declared.Closer.the-variants.{End}
 use Rattle.paper.specs.declared.Judged.the-variants.{Good}
 use Rattle.blocks.specs.Begins.{endsStream}
-use Rattle.cutting.specs.Claim.{claim}
 use Rattle.cutting.specs.CutBy.{isEndToken}
 use Rattle.cutting.specs.Cuttings.{joined, Alone, Chunks, last, next}
-use Rattle.cutting.proofs.OwnTokens.{apart, good-claim, within-good}
+use Rattle.paper.proofs.FirstToken.{Says, is-broken, is-comment, is-end, is-listed, says}
+use Rattle.paper.proofs.OwnTokens.{good-claim}
+use Rattle.paper.proofs.Bools.{apart}
 use Rattle.cutting.proofs.EndToken.{ends-by-token}
 use Rattle.records.specs.declared.Record.{Record}
 use Rattle.records.specs.Record.{endRecord, recordOn, recordOf}
-use Rattle.records.proofs.Heads.{is-end, is-comment, is-dcl, is-operation}
-use Rattle.records.proofs.OwnRecord.{end-record}
 use Rattle.listing.specs.Listing.{recordsOf}
 use Rattle.listing.proofs.ChunkRead.{behind, read-here}
 use Rattle.record_tokens.specs.Tokens.{bodyOn, commentBody}
@@ -41,38 +40,36 @@ module _ (v : Version) (first : ℕ) (rest : List ℕ) where
   end-chunk alone = eqb-true first endToken (ends-by-token v first rest (Closes End) alone)
 
   end-read : Alone v first rest (Closes End) → recordOf v (first ∷ rest) ≡ endRecord
-  unfolding tokenHead
-  end-read alone = end-record v first rest (rw (end-chunk alone))
+  unfolding tokenHead recordOf
+  end-read alone = rw (end-chunk alone)
 
-  module _ {size : ℕ} {class : Class} (no-end : isEndToken first ≡ false) where
-    other-by : (h : Head) (c : Class) → tokenHead v first ≡ h → byHead v h c rest ≡ Good size class → recordOn h first rest ≡ endRecord → ⊥
-    other-by (broken reason) c e j same = apart (cc)
-    other-by end c e j same = eqb-false first endToken no-end (is-end v first e)
-    other-by (comment n) c e j same = let z = ap (λ (r : Record). r .opcode) same in omega arith
-    other-by (dcl n) c e j same =
-        eqb-false (opcodeOf first) endOpcode (is-dcl v first n e .found .no-end) (ap (λ (r : Record). r .opcode) same)
-    other-by (operation row n) c e j same =
-        eqb-false (opcodeOf first) endOpcode (is-operation v first row n e .found .no-end) (ap (λ (r : Record). r .opcode) same)
+  other-by : (size : ℕ) (class : Class) → isEndToken first ≡ false → (h : Head) → Says v first h → (behind : List ℕ) →
+      onClaimed v h (opcodeOf first) behind ≡ Good size class → recordOn h first rest ≡ endRecord → ⊥
+  other-by size class no-end h (is-broken b) behind j same = apart (cc)
+  other-by size class no-end h (is-comment o l) behind j same = let z = ap (λ (r : Record). r .opcode) same in omega arith
+  other-by size class no-end h (is-end e) behind j same = eqb-false first endToken no-end e
+  other-by size class no-end h (is-listed o l b) behind j same =
+      eqb-false (opcodeOf first) endOpcode (o .no-end) (ap (λ (r : Record). r .opcode) same)
 
   other-read : {class : Class} → Alone v first rest class → endsStream class ≡ false → recordOf v (first ∷ rest) ≡ endRecord → ⊥
-  unfolding judged recordOf
+  unfolding recordOf
   other-read {class} alone other same =
-      other-by (ends-by-token v first rest class alone ∙ other) (tokenHead v first) (classOf (opcodeOf first)) refl alone same
+      other-by (length rest) class (ends-by-token v first rest class alone ∙ other) (tokenHead v first) (says v first) (take (length rest) rest)
+      (good-claim (length rest) class v first rest alone .good) same
 
 -- the body of a lawful chunk is the tokens behind its first, as many as its record says
-module _ (v : Version) (first : ℕ) (rest other : List ℕ) {size : ℕ} {class : Class} where
-  body-by : (h : Head) (c : Class) → tokenHead v first ≡ h → byHead v h c rest ≡ Good size class →
-      take (bodyLength (recordOn h first rest)) (rest ++ other) ≡ bodyOn h rest
-  body-by (broken reason) c e j = refl
-  body-by end c e j = refl
-  body-by (comment n) c e j =
-      rw (is-comment v first n e .stated) (take-append-le n rest other (within-good size class n rest (Good n (One Comment)) j .0))
-  body-by (dcl n) c e j = rw (is-dcl v first n e .found .no-comment)
-  body-by (operation row n) c e j = rw (is-operation v first row n e .found .no-comment)
+module _ (v : Version) (first : ℕ) (rest other : List ℕ) (size : ℕ) (class : Class) where
+  body-by : (h : Head) → Says v first h → claim h ≤ length rest → take (bodyLength (recordOn h first rest)) (rest ++ other) ≡ bodyOn h rest
+  body-by h (is-broken b) there = refl
+  body-by h (is-comment o l) there = take-append-le (commentLength first) rest other there
+  body-by h (is-end e) there = refl
+  body-by h (is-listed o l b) there = rw (o .no-comment)
 
   body-read : judged v (first ∷ rest) ≡ Good size class → take (bodyLength (recordOf v (first ∷ rest))) (rest ++ other) ≡ commentBody v (first ∷ rest)
-  unfolding judged recordOf commentBody
-  body-read j = body-by (tokenHead v first) (classOf (opcodeOf first)) refl j
+  unfolding recordOf commentBody
+  body-read j =
+      let g = good-claim size class v first rest j in
+      body-by (tokenHead v first) (says v first) (rw (g .claims) (g .there))
 
 -- the instructions of a row of chunks, the first of which begins at a place
 abbrev given : ℕ → Record → List ℕ → Given
@@ -92,7 +89,7 @@ module _ (v : Version) (first : ℕ) (rest other : List ℕ) {class : Class} (al
   given-here =
       let place : at + 1 ≡ suc at = omega arith in
       let rest-here : drop (suc at) s ≡ rest ++ other = rw (← place, ← drop-drop 1 at s, here) in
-      ap (λ (body : List ℕ). given at (recordOf v (first ∷ rest)) body) (rw rest-here (body-read v first rest other alone))
+      ap (λ (body : List ℕ). given at (recordOf v (first ∷ rest)) body) (rw rest-here (body-read v first rest other (length rest) class alone))
 
 pub chunks-read : {v : Version} {chunks : List (List ℕ)} {classes : List Class} → Chunks v chunks classes →
     (s : List ℕ) (at : ℕ) → drop at s ≡ joined chunks → length s ≤ mostTokens → ReadUp (versionToken v) s at (givenOf v chunks at)
@@ -124,7 +121,7 @@ end-short : (v : Version) (first : ℕ) (rest : List ℕ) → Alone v first rest
 unfolding tokenHead
 end-short v first rest alone =
     let e : tokenHead v first ≡ end = rw (end-chunk v first rest alone) in
-    sym (good-claim (length rest) (Closes End) v first rest alone .0) ∙ ap claim e
+    sym (good-claim (length rest) (Closes End) v first rest alone .claims) ∙ ap claim e
 
 last-behind : {v : Version} {chunks : List (List ℕ)} {classes : List Class} → Chunks v chunks classes → (g : Given) (at : ℕ) →
     lastPlace (g ∷ givenOf v chunks at) ≡ lastPlace (givenOf v chunks at)

@@ -36,7 +36,7 @@ use Rattle.edit.specs.declared.Edited.the-variants.{Joined, Accepted as Edited-
 use Rattle.edit.specs.Edit.{splice, newLength, placed, fits, meetsAtEnd, onVerdict, spliced, editRefused, editNamed, edited, editedIn, bufferAfter as editedBuffer}
 use Rattle.edit.proofs.Allowed.{Allowed, splice-verdict}
 use Rattle.edit.proofs.BufferHoldsTheSplice.{refused-keeps}
-use Rattle.cutting.proofs.OwnTokens.{apart}
+use Rattle.paper.proofs.Bools.{apart}
 use Rattle.santubeli.specs.declared.Answer.{Answer}
 use Rattle.santubeli.specs.Entries.{answerOf, readAnswer, editAnswerOf}
 use Rattle.demands.specs.Demand1.{readNumbers, checkNumbers, writeNumbers, editNumbers, Numbered, Tells, accepts, refuses, KeptUnlessYes, Demand1}

@@ -8,7 +8,7 @@ use lib.ListN.{length, drop, getD, length-drop}
 use borrow.Author.Tests.{leb-true}
 use Rattle.paper.specs.Versions.{versionToken}
 use Rattle.paper.specs.Stream.{mostTokens}
-use Rattle.paper.proofs.Below.{both-left, both-right}
+use Rattle.paper.proofs.Bools.{both-left, both-right}
 use Rattle.cutting.specs.Cuttings.{joined, LawfulStream}
 use Rattle.cutting.proofs.AcceptedIsACutting.{accepted-is-a-cutting, a-cutting-is-accepted}
 use Rattle.cutting.proofs.OneCutting.{one-cutting}

@@ -14,7 +14,7 @@ use Rattle.paper.specs.declared.Named.the-variants.{Known}
 use Rattle.paper.specs.declared.Refusal.{Refusal}
 use Rattle.paper.specs.declared.Verdict.the-variants.{Accepted as yes-verdict, Refused as no-verdict}
 use Rattle.cutting.proofs.AcceptedIsACutting.{accepted-is-a-cutting}
-use Rattle.checker.proofs.Whole.{verdict-walked}
+use Rattle.paper.proofs.StreamVerdict.{verdict-walked}
 use Rattle.edit.specs.declared.Edited.the-variants.{Joined, Accepted}
 use Rattle.edit.specs.Boundaries.{standingAt, isBoundary}
 use Rattle.edit.specs.Edit.{newLength, placed, fits, meetsAtEnd, onVerdict, edited, editedIn, bufferAfter, carried}

@@ -1,5 +1,4 @@
 -- The demands, proved: they join what the crates below prove of definitions.
-pub mod InstructionReasons
 pub mod WhereRefused
 pub mod NumbersAndPositions
 pub mod Demand1

@@ -26,19 +26,20 @@ use Rattle.blocks.specs.Reach.{openAfter}
 use Rattle.blocks.proofs.Cutting.{cut-at}
 use Rattle.blocks.proofs.Refused.{open-append, begins-open, begins-none, step-reason}
 use Rattle.walk.proofs.OpenBlocks.{step-few}
-use Rattle.cutting.proofs.OwnTokens.{apart}
-use Rattle.checker.proofs.Whole.{verdict-walked}
+use Rattle.paper.proofs.Bools.{apart}
+use Rattle.paper.proofs.StreamVerdict.{verdict-walked}
 use Rattle.edit.proofs.Standing.{Comes, stays, passes}
 use Rattle.demands.specs.Nesting.{GoodRow, standing, next, opens, BreaksAt, blocksOpened, blocksClosed, Nesting}
 use Rattle.demands.proofs.BlocksCounted.{step-count, deep-enough}
-use Rattle.demands.proofs.InstructionReasons.{instruction-reason}
-use Rattle.demands.proofs.WhereRefused.{good-inside, Refusing, runs-out, unlawful, breaks, trails, StreamRefused, for-length, for-version, in-walk, stream-refused, nesting-refused}
+use Rattle.paper.proofs.OwnTokens.{good-inside}
+use Rattle.paper.proofs.OneInstruction.{judged-reason}
+use Rattle.demands.proofs.WhereRefused.{Refusing, runs-out, unlawful, breaks, trails, StreamRefused, for-length, for-version, in-walk, stream-refused, nesting-refused}
 
 -- a good instruction, and what follows it
 cut-good : (v : Version) (s : List ℕ) (p size : ℕ) (class : Class) → judged v (drop p s) ≡ Good size class →
     cutFrom v s p ≡ then class p (cutFrom v s (p + suc size))
 cut-good v s p size class j =
-    let inside : p < length s = omega (arith, good-inside v s p size class j) in
+    let inside : p < length s = omega (arith, good-inside size class v s p j) in
     cut-at v s p inside ∙ rw j
 
 -- a row of instructions leads the cut
@@ -154,7 +155,7 @@ module _ (s : List ℕ) (p : ℕ) (opener : Bool) (answer : verdict s ≡ Refuse
   by-walk : {r : Refusal} → Refusing v s 1 [] r → r ≡ refusal (reasonOf opener) p → Broken
   by-walk (runs-out c) e = absurd (other opener RUN-OUT (omega arith) (ap (λ (x : Refusal). x .reason) e))
   by-walk (unlawful {q = q} {r = x} c l j) e =
-      let few = instruction-reason (λ (y : Reason). numberOf y < 9) (omega arith) (omega arith) (omega arith) (omega arith) (omega arith) (omega arith)
+      let few = judged-reason (λ (y : Reason). numberOf y < 9) (omega arith) (omega arith) (omega arith) (omega arith) (omega arith) (omega arith)
       v (drop q s) x j in
       absurd (other opener (x .reason) few (ap (λ (y : Refusal). y .reason) e))
   by-walk (breaks {q = q} {size = size} {class = class} {ls = ls} {reason = reason} c j st) e =

@@ -1,5 +1,5 @@
 -- The numbers and positions of refusals: of one instruction, and of a stream.
-use Prim.Native.Nat.{ℕ, _+_, _≤_}
+use Prim.Native.Nat.{ℕ, _+_, _-_, _≤_}
 use mathlib.Core.Path.{_≡_, refl, subst, sym, _∙_}
 use mathlib.Core.Bool.{Bool, true, false, _||_}
 use mathlib.Core.List.{List, [], _∷_, _++_}
@@ -20,11 +20,12 @@ use Rattle.paper.specs.declared.Judged.the-variants.{Refused as Unlawful}
 use Rattle.paper.specs.declared.Verdict.the-variants.{Refused}
 use Rattle.blocks.specs.Begins.{nestingReason}
 use Rattle.blocks.proofs.Refused.{step-reason}
-use Rattle.cutting.proofs.OwnTokens.{apart}
-use Rattle.checker.proofs.Within.{judged-within}
+use Rattle.paper.proofs.Bools.{apart}
+use Rattle.paper.proofs.OwnTokens.{good-inside}
+use Rattle.paper.proofs.OneInstruction.{judged-near}
 use Rattle.demands.specs.Demand1.{readNumbers, checkNumbers, atStart, Numbered}
-use Rattle.demands.proofs.InstructionReasons.{instruction-reason}
-use Rattle.demands.proofs.WhereRefused.{good-inside, Refusing, runs-out, unlawful, breaks, trails, StreamRefused, for-length, for-version, in-walk, stream-refused}
+use Rattle.paper.proofs.OneInstruction.{judged-reason}
+use Rattle.demands.proofs.WhereRefused.{Refusing, runs-out, unlawful, breaks, trails, StreamRefused, for-length, for-version, in-walk, stream-refused}
 
 -- a refusal with one of these numbers, in a stream of so many tokens
 abbrev pub Fits : List ℕ → ℕ → Refusal → Type 0
@@ -61,7 +62,7 @@ widened numbers more {number = number} n = record {
 pub instruction-fits : (v : Version) (own : List ℕ) (r : Refusal) → judged v own ≡ Unlawful r → (tokens position : ℕ) → position ≤ tokens →
     Numbered readNumbers tokens (numberOf (r .reason)) position
 instruction-fits v own r e tokens position h =
-    instruction-reason (λ (reason : Reason). Numbered readNumbers tokens (numberOf reason) position) (told 3 refl refl) (told 4 refl refl)
+    judged-reason (λ (reason : Reason). Numbered readNumbers tokens (numberOf reason) position) (told 3 refl refl) (told 4 refl refl)
     (told 5 refl refl) (told 6 refl refl) (told 7 refl refl) (told 8 refl refl) v own r e
   where
     told : (number : ℕ) → among number readNumbers ≡ true → among number atStart ≡ false → Numbered readNumbers tokens number position
@@ -70,7 +71,7 @@ instruction-fits v own r e tokens position h =
 -- a refused instruction's position is at most the token count
 pub refused-inside : (v : Version) (s : List ℕ) (p : ℕ) (r : Refusal) → p ≤ length s → judged v (drop p s) ≡ Unlawful r → p + r .position ≤ length s
 refused-inside v s p r h j =
-    let near : r .position ≤ length (drop p s) = rw j at (judged-within v (drop p s)) in
+    let near : r .position ≤ length (drop p s) - 1 = rw j at (judged-near v (drop p s)) in
     omega (arith, length-drop p s)
 
 -- a nesting
@@ -86,7 +87,7 @@ walk-fits {v} {s} (unlawful {q = q} {r = r} c l j) =
     widened readNumbers (9 ∷ 10 ∷ 11 ∷ [])
     (instruction-fits v (drop q s) r j (length s) (q + r .position) (refused-inside v s q r (omega arith) j))
 walk-fits {v} {s} (breaks {q = q} {size = size} {class = class} {ls = ls} {reason = reason} c j st) =
-    rw (step-reason class ls reason st) (nesting-fits class (length s) q (omega (arith, good-inside v s q size class j)))
+    rw (step-reason class ls reason st) (nesting-fits class (length s) q (omega (arith, good-inside size class v s q j)))
 walk-fits {s = s} (trails {q = q} l) = at-token checkNumbers (length s) 11 q (omega arith) refl refl
 
 -- a stream

@@ -28,13 +28,10 @@ use Rattle.blocks.proofs.Cutting.{cut-none, cut-at}
 use Rattle.blocks.proofs.Refused.{none-begins-refused}
 use Rattle.blocks.specs.Nesting.{nesting, countOf}
 use Rattle.blocks.proofs.Counting.{walked-nesting}
-use Rattle.cutting.proofs.OwnTokens.{apart, good-within}
-use Rattle.checker.proofs.Whole.{laid-two, verdict-length, verdict-version, verdict-walked}
+use Rattle.paper.proofs.OwnTokens.{good-inside}
+use Rattle.paper.proofs.Bools.{apart}
+use Rattle.paper.proofs.StreamVerdict.{laid-two, verdict-length, verdict-version, verdict-walked}
 use Rattle.edit.proofs.Standing.{Comes, stays, passes}
-
--- a good instruction stands before the token count and ends at it or before
-pub good-inside : (v : Version) (s : List ℕ) (p size : ℕ) (class : Class) → judged v (drop p s) ≡ Good size class → p + suc size ≤ length s
-good-inside v s p size class j = omega (arith, good-within size class v (drop p s) j, length-drop p s)
 
 -- a walk at p, with the blocks ks open, is refused: there is no token where it comes to; the instruction there is refused by itself; the
 -- blocks that are open there do not let it stand; or it is the END that finishes the stream, and tokens follow
@@ -79,7 +76,7 @@ module _ (v : Version) (s : List ℕ) (r : Refusal) where
       (later : (m size : ℕ) (ls : List Kind) → p + suc size ≤ length s → nesting m (cutFrom v s (p + suc size)) ls ≡ Refused r → Refusing v s (p + suc size) ls r) where
     by-step : (size : ℕ) (class : Class) → judged v (drop p s) ≡ Good size class → (x : Next) → step ks class ≡ x →
         onNext x n p (cutFrom v s (p + suc size)) (λ next. nesting n (cutFrom v s (p + suc size)) next) ≡ Refused r → Refusing v s p ks r
-    by-step size class j (go ls) st e = further j st inside (later n size ls (good-inside v s p size class j) e)
+    by-step size class j (go ls) st e = further j st inside (later n size ls (good-inside size class v s p j) e)
     by-step size class j (bad reason) st e = same p ks (refusal reason p) e (breaks stays j st)
     by-step size class j finish st e = behind-end n p (p + suc size) ks (leb (length s) (p + suc size)) refl e
 

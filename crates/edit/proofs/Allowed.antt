@@ -12,6 +12,7 @@ use Rattle.paper.specs.Notation.{pick}
 use Rattle.paper.specs.Numbers.{refusal}
 use Rattle.paper.specs.Versions.{named}
 use Rattle.paper.specs.Walk.{Kind}
+use Rattle.paper.proofs.StreamVerdict.{verdict-walked}
 use Rattle.paper.specs.Stream.{walked, verdict, mostTokens, lengthLaid, onNamed as verdictNamed}
 use Rattle.paper.specs.declared.Version.{Version}
 use Rattle.paper.specs.declared.Named.{Named}
@@ -23,7 +24,8 @@ use Rattle.edit.specs.declared.Edited.{Edited}
 use Rattle.edit.specs.declared.Edited.the-variants.{Joined, Accepted}
 use Rattle.edit.specs.Boundaries.{standsWith, standingAt, isBoundary}
 use Rattle.edit.specs.Edit.{splice, newLength, placed, fits, spliced, editRefused, editNamed, edited, editedIn}
-use Rattle.edit.proofs.Standing.{apart, ahead, standing-comes}
+use Rattle.edit.proofs.Standing.{ahead, standing-comes}
+use Rattle.paper.proofs.Bools.{apart}
 use Rattle.edit.proofs.Prefix.{splice-length}
 use Rattle.edit.proofs.SameBlocks.{both, boundary}
 
@@ -125,12 +127,6 @@ module _ (buffer : List ℕ) (n i j : ℕ) (run : List ℕ) (k : ℕ) where
       (leb-true n (length buffer) (h .0), h .1)
 
 -- the verdict of a stream with a lawful length and version is its walk's
-pub verdict-walked : (s : List ℕ) (v : Version) → lengthLaid (length s) ≡ true → named (getD s 0 0) ≡ Known v → verdict s ≡ walked v s
-unfolding verdict
-verdict-walked s v laid known =
-    ap (λ (b : Bool). pick b (verdictNamed (named (getD s 0 0)) (λ x. walked x s)) (no-verdict (refusal LENGTH 0))) laid
-    ∙ ap (λ (n : Named). verdictNamed n (λ x. walked x s)) known
-
 -- a splice between two places of the old stream has the new length and the old version
 module _ (old : List ℕ) (i j : ℕ) (run : List ℕ) (behind : 1 ≤ i) (order : i ≤ j) (before : j < length old) where
   pub new-length : length (splice old i j run) ≡ newLength (length old) i j (length run)

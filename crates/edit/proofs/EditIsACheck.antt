@@ -19,7 +19,7 @@ use Rattle.edit.specs.declared.Edited.{Edited}
 use Rattle.edit.specs.declared.Edited.the-variants.{Joined, Accepted, Refused}
 use Rattle.edit.specs.Edit.{splice, newLength, placed, fits, meetsAtEnd, onVerdict, edited}
 use Rattle.edit.specs.Refusals.{editRefusal, checkRefusal}
-use Rattle.edit.proofs.Standing.{apart}
+use Rattle.paper.proofs.Bools.{apart}
 use Rattle.edit.proofs.Allowed.{Allowed, places, allowed-answer, new-length, splice-verdict}
 use Rattle.edit.proofs.JoinedIsTheOldVerdict.{joined-accepted}
 

@@ -29,9 +29,11 @@ use Rattle.blocks.proofs.Counting.{walked-nesting}
 use Rattle.edit.specs.declared.Edited.the-variants.{Joined}
 use Rattle.edit.specs.Boundaries.{standsWith, standingAt}
 use Rattle.edit.specs.Edit.{splice, newLength, meetsAtEnd, onVerdict, spliced, edited, carried}
-use Rattle.edit.proofs.Standing.{apart, startOf, start-of, standing-reached}
+use Rattle.edit.proofs.Standing.{startOf, start-of, standing-reached}
+use Rattle.paper.proofs.Bools.{apart}
 use Rattle.edit.proofs.SameBlocks.{met}
-use Rattle.edit.proofs.Allowed.{places, joined-allowed, verdict-walked, splice-verdict}
+use Rattle.edit.proofs.Allowed.{places, joined-allowed, splice-verdict}
+use Rattle.paper.proofs.StreamVerdict.{verdict-walked}
 
 -- the tokens of a splice from the run's end on are the old ones from j on
 drop-splice : (old : List ℕ) (i j : ℕ) (run : List ℕ) → i ≤ length old → drop (i + length run) (splice old i j run) ≡ drop j old

@@ -6,7 +6,7 @@ use Rattle.paper.proofs.OneToOne.{same-refusal, no-reason-zero}
 use Rattle.edit.specs.declared.Edited.{Edited}
 use Rattle.edit.specs.declared.Edited.the-variants.{Joined, Accepted, Refused}
 use Rattle.edit.specs.Edit.{ToldEdit, toldEdit, editedIn, bufferAfter}
-use Rattle.edit.proofs.Standing.{apart}
+use Rattle.paper.proofs.Bools.{apart}
 
 -- Of two edits one thing is told only if they have one answer.
 pub same-edit : (a b : Edited) → toldEdit a ≡ toldEdit b → a ≡ b

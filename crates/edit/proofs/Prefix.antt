@@ -11,7 +11,7 @@ use Rattle.paper.specs.Walk.{Kind}
 use Rattle.paper.specs.declared.Version.{Version}
 use Rattle.paper.specs.declared.Class.{Class}
 use Rattle.paper.specs.declared.Judged.the-variants.{Good}
-use Rattle.cutting.proofs.OwnTokens.{good-alone}
+use Rattle.paper.proofs.OwnTokens.{good-alone}
 use Rattle.edit.specs.Boundaries.{standsWith, standingAt}
 use Rattle.edit.specs.Edit.{splice}
 use Rattle.edit.proofs.Standing.{Comes, stays, passes, ahead, comes-standing, standing-comes}

@@ -6,7 +6,7 @@ use Rattle.paper.specs.Walk.{Kind, opened, pastElse}
 use Rattle.paper.specs.declared.Opener.{Opener}
 use Rattle.paper.specs.declared.Opener.the-variants.{If, Loop, Rep}
 use Rattle.edit.specs.Boundaries.{Standing, nowhere, standsWith, sameOpener, sameKind, sameBlocks, meets, isBoundary}
-use Rattle.edit.proofs.Standing.{apart}
+use Rattle.paper.proofs.Bools.{apart}
 
 pub both : (a b : Bool) → a && b ≡ true → (a ≡ true) × (b ≡ true)
 both true b e = (refl, e)

@@ -7,6 +7,7 @@ use native.Mathlib.Omega.{arith}
 use lib.Dec.{eqb, leb}
 use lib.ListN.{length, drop}
 use borrow.Author.Tests.{eqb-true, eq-eqb, ne-eqb, leb-true, leb-false}
+use Rattle.paper.proofs.Bools.{apart}
 use Rattle.paper.specs.Notation.{pick}
 use Rattle.paper.specs.Instruction.{judged}
 use Rattle.paper.specs.Blocks.{Cut, out, wrong, then}
@@ -21,9 +22,6 @@ use Rattle.blocks.proofs.Cutting.{cut-none, cut-at}
 use Rattle.edit.specs.Boundaries.{nowhere, standsWith, onward, standing, standingAt}
 
 -- two constructors are never equal
-pub apart : {A : Type 0} → _≡_ {A = ℕ} 0 1 → A
-apart e = absurd (omega arith)
-
 -- a walk of a stream, at p with the blocks ks open, comes to q with the blocks ls open: instruction by instruction, by their tokens
 pub data Comes (v : Version) (s : List ℕ) : ℕ → List Kind → ℕ → List Kind → Type 0 where
   stays : {p : ℕ} {ks : List Kind} → Comes v s p ks p ks

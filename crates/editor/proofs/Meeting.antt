@@ -15,7 +15,8 @@ use Rattle.edit.specs.declared.Edited.{Edited}
 use Rattle.edit.specs.declared.Edited.the-variants.{Joined, Refused}
 use Rattle.edit.specs.Boundaries.{nowhere, standsWith, standingAt}
 use Rattle.edit.specs.Edit.{splice, newLength, meetsAtEnd, spliced}
-use Rattle.edit.proofs.Standing.{apart, reached-standing}
+use Rattle.edit.proofs.Standing.{reached-standing}
+use Rattle.paper.proofs.Bools.{apart}
 use Rattle.edit.proofs.Prefix.{splice-length}
 use Rattle.edit.proofs.SameBlocks.{both, met as both-stand, meeting}
 use Rattle.walk.specs.declared.State.{State}

@@ -11,7 +11,8 @@ use Rattle.paper.specs.declared.Class.{Class}
 use Rattle.paper.specs.declared.Refusal.{Refusal}
 use Rattle.paper.specs.declared.Judged.the-variants.{Good}
 use Rattle.edit.specs.Boundaries.{Standing, nowhere, standsWith, standingAt}
-use Rattle.edit.proofs.Standing.{Comes, stays, passes, apart, ahead, standing-comes, reached-standing}
+use Rattle.edit.proofs.Standing.{Comes, stays, passes, ahead, standing-comes, reached-standing}
+use Rattle.paper.proofs.Bools.{apart}
 use Rattle.walk.specs.declared.State.{State}
 use Rattle.walk.specs.declared.Stepped.the-variants.{On, Done, Refused}
 use Rattle.walk.specs.Kinds.{kindsNumber, numbered, nextBy}

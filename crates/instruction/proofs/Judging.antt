@@ -3,43 +3,38 @@ use mathlib.Core.Path.{_≡_, refl, sym, ap, _∙_}
 use mathlib.Core.Bool.{Bool, true, false}
 use mathlib.Core.List.{List, [], _∷_}
 use Prim.Native.Nat.{ℕ, _+_, _-_, _<_, _≤_}
-use native.Mathlib.Nat.{mod-lt, add-zero}
+use native.Mathlib.Nat.{add-zero}
 use native.Mathlib.Omega.{arith}
-use lib.Dec.{eqb, leb, leb·zero, lit<}
+use lib.Dec.{eqb, leb, leb·zero}
 use lib.ListN.{length, take, drop, getD, length-take, length-drop}
 use lib.Seq.{drop-drop, getD-drop, take-take}
-use borrow.Author.Tests.{ne-eqb, eqb-true, eqb-false, le-leb, lt-leb, leb-true, leb-false}
+use borrow.Author.Tests.{le-leb, lt-leb, leb-true, leb-false}
 use Rattle.paper.specs.Notation.{pick}
 use Rattle.paper.specs.Numbers.{refusal}
-use Rattle.paper.specs.OpcodeTable.{DCL}
-use Rattle.paper.specs.InstructionToken.{opcodeOf, statedSize, commentOpcode, commentLength, commentLaid, endOpcode, endToken, isPredicated, withPredicate, bitsLaid}
+use Rattle.paper.specs.InstructionToken.{opcodeOf, commentOpcode, endOpcode}
 use Rattle.paper.specs.OperandTokens.{typeOf, leftOver, refusedOperands}
 use Rattle.paper.specs.Dcl.{declaredAt, usageLaid, onDeclared, declaration}
 use Rattle.paper.specs.Blocks.{classOf}
-use Rattle.paper.specs.Instruction.{Head as Said, broken, end, comment, dcl, operation, headOf, tokenHead, judged}
+use Rattle.paper.specs.Instruction.{Head, broken, end, comment, operation, tokenHead, claim, byHead, judged}
+use Rattle.paper.specs.Places.{Entry, absent, listed, entryOf}
 use Rattle.paper.specs.declared.Version.{Version}
 use Rattle.paper.specs.declared.Reason.{Reason}
-use Rattle.paper.specs.declared.Class.the-variants.{Closes}
-use Rattle.paper.specs.declared.Closer.the-variants.{End as End-of-stream}
+use Rattle.paper.specs.declared.Reason.the-variants.{Bits as BITS, RunOut as RUN-OUT, Size as SIZE, Operand as OPERAND}
 use Rattle.paper.specs.declared.Refusal.{Refusal}
 use Rattle.paper.specs.declared.Token.{Token}
 use Rattle.paper.specs.declared.Token.the-variants.{Good as good, Bad as bad}
 use Rattle.paper.specs.declared.Operands.{Operands}
 use Rattle.paper.specs.declared.Operands.the-variants.{Refused as unfit}
-use Rattle.paper.specs.declared.Judged.the-variants.{Good, Refused as Unfit}
-use Rattle.paper.specs.declared.Reason.the-variants.{Opcode as OPCODE, Bits as BITS, Size as SIZE, Operand as OPERAND}
-use Rattle.paper.specs.Places.{Entry, absent, listed, entryOf}
+use Rattle.paper.specs.declared.Judged.the-variants.{Refused}
+use Rattle.paper.proofs.Bools.{apart}
+use Rattle.paper.proofs.FirstToken.{stray-comment, stray-end, no-row, stray-bits, Says, is-broken, is-comment, is-end, is-listed, says, fifteen}
 use Rattle.opcodes.specs.Classes.{classNumber}
 use Rattle.opcodes.specs.Shape.{shapeOf}
-use Rattle.opcodes.proofs.Shapes.{shape-absent, shape-class}
+use Rattle.opcodes.proofs.Shapes.{shape-absent, shape-zero, shape-class}
 use Rattle.opcodes.proofs.Table.{beyond}
-use Rattle.instruction_token.specs.declared.Head.{Head}
-use Rattle.instruction_token.specs.declared.Head.the-variants.{Refused, End, Comment, Declaration, Operation}
-use Rattle.instruction_token.specs.Encoded.{encoded, classIn, bitsBy, placesBy, headBy}
-use Rattle.instruction_token.proofs.Heads.{head-comment, head-end, head-other}
-use Rattle.instruction.specs.Claimed.{listedIn}
-use Rattle.instruction.specs.Shown.{roomFor, judgedWith, judgedIn, unlistedIn}
-use Rattle.instruction.proofs.Claimed.{judged-some}
+use Rattle.instruction_token.specs.ByShape.{classIn, bitsBy}
+use Rattle.instruction_token.proofs.ByShape.{bits-by, places-back}
+use Rattle.instruction.specs.Shown.{listedHead, roomFor, judgedWith, judgedIn, unlistedIn}
 
 -- a DCL is refused at one of its three tokens
 near : (o : Operands) (r : Refusal) (p : ℕ) (reason : Reason) → o ≡ refusedOperands reason p → p ≤ 2 → o ≡ unfit r → r .position ≤ 2
@@ -47,7 +42,7 @@ near o r p reason e few h = let same : p ≡ r .position = cc in omega arith
 
 module _ (r : Refusal) where
   over-near : (rest : List ℕ) → leftOver rest ≡ unfit r → r .position ≤ 2
-  over-near [] h = let z : _≡_ {A = ℕ} 0 1 = cc in absurd (omega arith)
+  over-near [] h = apart (cc)
   over-near (x ∷ rest) h = near _ r 0 SIZE refl (omega arith) h
 
   usage-near : (laid : Bool) (rest : List ℕ) → pick laid (leftOver rest) (refusedOperands OPERAND 1) ≡ unfit r → r .position ≤ 2
@@ -65,123 +60,72 @@ declared-near v (u ∷ []) r h = near _ r 0 SIZE refl (omega arith) h
 declared-near v (u ∷ (d ∷ rest)) r h = token-near r (declaredAt v d) (usageLaid v (typeOf d) u) rest h
 
 module _ (v : Version) (first : ℕ) (behind : List ℕ) (left : ℕ) where
-  with-pick : (b : Bool) (x y : Head) →
-      judgedWith v (pick b x y) first behind left ≡ pick b (judgedWith v x first behind left) (judgedWith v y first behind left)
-  with-pick true x y = refl
-  with-pick false x y = refl
-
-  with-broken : (reason : Reason) → judgedWith v (Refused reason) first behind left ≡ Unfit (refusal reason 0)
-  with-broken reason = rw (leb·zero (length behind)) refl
-
-  with-end : judgedWith v End first behind left ≡ Good 0 (Closes End-of-stream)
-  with-end = rw (leb·zero (length behind)) refl
-
-  no-row-by : (isComment isEnd : Bool) → eqb (opcodeOf first) commentOpcode ≡ isComment → eqb (opcodeOf first) endOpcode ≡ isEnd →
-      shapeOf v (opcodeOf first) ≡ 0 → judgedIn v first behind left ≡ unlistedIn first left
-  unfolding judgedIn unlistedIn headBy
-  no-row-by true isEnd c e z =
-      rw (
-        head-comment v first (eqb-true _ _ c),
-        c,
-        with-pick (commentLaid first) (Comment (commentLength first)) (Refused BITS),
-        with-broken BITS,
-      )
-      refl
-  no-row-by false true c e z =
-      rw (
-        head-end v first (eqb-true _ _ e),
-        c,
-        e,
-        with-pick (eqb first endToken) End (Refused BITS),
-        with-broken BITS,
-        with-end,
-      )
-      refl
-  no-row-by false false c e z =
-      rw (head-other v first (eqb-false _ _ c) (eqb-false _ _ e), c, e, z, with-broken OPCODE) refl
+  -- where no row lists the opcode
+  unlisted-by : (h : Head) → Says v first h → entryOf v (opcodeOf first) ≡ absent → judgedWith v h first behind left ≡ unlistedIn first left
+  unfolding unlistedIn
+  unlisted-by h (is-broken (stray-comment o l)) none = rw (leb·zero (length behind), o, l)
+  unlisted-by h (is-broken (stray-end o n)) none = rw (leb·zero (length behind), o, n)
+  unlisted-by h (is-broken (no-row o e)) none = rw (leb·zero (length behind), o .no-comment, o .no-end)
+  unlisted-by h (is-broken (stray-bits o e l)) none = apart (cc)
+  unlisted-by h (is-comment o l) none = rw (o, l)
+  unlisted-by h (is-end n) none = rw (leb·zero (length behind), n)
+  unlisted-by h (is-listed o e l) none = apart (cc)
 
   pub judged-unlisted : shapeOf v (opcodeOf first) ≡ 0 → judgedIn v first behind left ≡ unlistedIn first left
-  judged-unlisted z = no-row-by (eqb (opcodeOf first) commentOpcode) (eqb (opcodeOf first) endOpcode) refl refl z
+  unfolding judgedIn
+  judged-unlisted z = unlisted-by (tokenHead v first) (says v first) (shape-zero v (opcodeOf first) z)
 
--- an opcode of the table is neither a comment's nor END's
-module _ (v : Version) (first : ℕ) (some : shapeOf v (opcodeOf first) ≡ 0 → ⊥) where
-  within-table : 97 ≤ opcodeOf first → ⊥
-  within-table h = some (shape-absent v (opcodeOf first) (beyond v (opcodeOf first) h))
+  -- where one does: it is neither a comment's opcode nor END's
+  module _ (some : shapeOf v (opcodeOf first) ≡ 0 → ⊥) where
+    listed-alone : {A : Type 0} → entryOf v (opcodeOf first) ≡ absent → A
+    listed-alone e = absurd (some (shape-absent v (opcodeOf first) e))
 
-  class-by : (entry : Entry) → entryOf v (opcodeOf first) ≡ entry → classIn (shapeOf v (opcodeOf first)) ≡ classNumber (classOf (opcodeOf first))
-  class-by absent e = absurd (some (shape-absent v (opcodeOf first) e))
-  class-by (listed places) e = shape-class v (opcodeOf first) places e
+    beyond-table : {A : Type 0} (opcode : ℕ) → 97 ≤ opcode → opcodeOf first ≡ opcode → A
+    beyond-table opcode h e = listed-alone (ap (entryOf v) e ∙ beyond v opcode h)
 
-  pub class-in : classIn (shapeOf v (opcodeOf first)) ≡ classNumber (classOf (opcodeOf first))
-  class-in = class-by (entryOf v (opcodeOf first)) refl
+    shaped-by : (h : Head) → Says v first h → judgedWith v h first behind left ≡
+        pick (bitsBy (shapeOf v (opcodeOf first)) first) (byHead v (listedHead (shapeOf v (opcodeOf first)) first) (opcodeOf first) behind)
+        (Refused (refusal BITS 0))
+    shaped-by h (is-broken (stray-comment o l)) = beyond-table commentOpcode (omega arith) o
+    shaped-by h (is-broken (stray-end o n)) = beyond-table endOpcode (omega arith) o
+    shaped-by h (is-broken (no-row o e)) = listed-alone e
+    shaped-by h (is-broken (stray-bits {places} o e l)) = rw (leb·zero (length behind), bits-by v first places e, l)
+    shaped-by h (is-comment o l) = beyond-table commentOpcode (omega arith) o
+    shaped-by h (is-end n) = beyond-table endOpcode (omega arith) (ap opcodeOf n)
+    shaped-by h (is-listed {places} o e l) = rw (bits-by v first places e, l, places-back v first places e l)
 
-  head-listed : encoded (tokenHead v first) ≡ headBy (shapeOf v (opcodeOf first)) first
-  head-listed =
-      head-other v first (λ e. within-table (omega arith)) (λ e. within-table (omega arith))
+    pub judged-shaped : judgedIn v first behind left ≡
+        pick (bitsBy (shapeOf v (opcodeOf first)) first) (byHead v (listedHead (shapeOf v (opcodeOf first)) first) (opcodeOf first) behind)
+        (Refused (refusal BITS 0))
+    unfolding judgedIn
+    judged-shaped = shaped-by (tokenHead v first) (says v first)
 
-  module _ (behind : List ℕ) (left : ℕ) where
-    pub judged-bits : bitsBy (shapeOf v (opcodeOf first)) first ≡ false → judgedIn v first behind left ≡ Unfit (refusal BITS 0)
-    unfolding judgedIn headBy
-    judged-bits b = rw (head-listed, ne-eqb _ _ some, b, with-broken v first behind left BITS) refl
+    class-by : (entry : Entry) → entryOf v (opcodeOf first) ≡ entry → classIn (shapeOf v (opcodeOf first)) ≡ classNumber (classOf (opcodeOf first))
+    class-by absent e = listed-alone e
+    class-by (listed places) e = shape-class v (opcodeOf first) places e
 
-    by-kind : (isDcl : Bool) → eqb (opcodeOf first) DCL ≡ isDcl →
-        judgedWith v
-        (pick isDcl (Declaration (statedSize first)) (Operation (placesBy (shapeOf v (opcodeOf first)) first) (statedSize first))) first behind left ≡
-        listedIn v (shapeOf v (opcodeOf first)) first behind
-    by-kind true e = rw e refl
-    by-kind false e = rw e refl
+    pub class-in : classIn (shapeOf v (opcodeOf first)) ≡ classNumber (classOf (opcodeOf first))
+    class-in = class-by (entryOf v (opcodeOf first)) refl
 
-    pub judged-listed : bitsBy (shapeOf v (opcodeOf first)) first ≡ true →
-        judgedIn v first behind left ≡ listedIn v (shapeOf v (opcodeOf first)) first behind
-    unfolding judgedIn headBy
-    judged-listed b = rw (head-listed, ne-eqb _ _ some, b) (by-kind (eqb (opcodeOf first) DCL) refl)
+-- where no token is, and where all the tokens behind the first are shown
+pub judged-none : (v : Version) (tokens : List ℕ) → length tokens ≡ 0 → judged v tokens ≡ Refused (refusal RUN-OUT 0)
+unfolding judged
+judged-none v [] h = refl
+judged-none v (first ∷ rest) h = absurd (omega arith)
 
--- where all the tokens behind the first are shown
 room-all : (h : Head) (n : ℕ) → roomFor h n n ≡ n
-room-all (Refused reason) n = refl
-room-all End n = refl
-room-all (Comment length) n = refl
-room-all (Declaration size) n = refl
-room-all (Operation places size) n = refl
+room-all (broken reason) n = refl
+room-all end n = refl
+room-all (comment size) n = refl
+room-all (operation places size) n = refl
 
 pub judged-whole : (v : Version) (tokens : List ℕ) (left : ℕ) → (length tokens ≡ 0 → ⊥) → left ≡ length (drop 1 tokens) →
     judged v tokens ≡ judgedIn v (getD tokens 0 0) (drop 1 tokens) left
-unfolding judgedIn
-judged-whole v tokens left some e =
-    rw (judged-some v tokens some, e, room-all (encoded (tokenHead v (getD tokens 0 0))) (length (drop 1 tokens))) refl
+unfolding judged judgedIn
+judged-whole v [] left some e = absurd (some refl)
+judged-whole v (first ∷ rest) left some e = rw (e, room-all (tokenHead v first) (length rest))
 
--- nothing but a comment claims more than fifteen tokens behind its first
-abbrev Sized : Head → Type 0
-Sized (Refused reason) = Unit
-Sized End = Unit
-Sized (Comment length) = Unit
-Sized (Declaration size) = size < 16
-Sized (Operation places size) = size < 16
-
-sized-pick : (b : Bool) (x y : Said) → Sized (encoded x) → Sized (encoded y) → Sized (encoded (pick b x y))
-sized-pick true x y a b = a
-sized-pick false x y a b = b
-
-sized-entry : (v : Version) (token : ℕ) (entry : Entry) → Sized (encoded (headOf v token entry))
-sized-entry v token absent = tt
-sized-entry v token (listed places) =
-    let few : statedSize token < 16 = mod-lt _ (lit< tt) in
-    sized-pick (bitsLaid v token places)
-    (pick (eqb (opcodeOf token) DCL) (dcl (statedSize token)) (operation (withPredicate (isPredicated token) places) (statedSize token)))
-    (broken BITS)
-    (sized-pick (eqb (opcodeOf token) DCL) (dcl (statedSize token)) (operation (withPredicate (isPredicated token) places) (statedSize token)) few few)
-    tt
-
-sized : (v : Version) (token : ℕ) → Sized (encoded (tokenHead v token))
-unfolding tokenHead
-sized v token =
-    sized-pick (eqb (opcodeOf token) commentOpcode) (pick (commentLaid token) (comment (commentLength token)) (broken BITS)) _
-    (sized-pick (commentLaid token) (comment (commentLength token)) (broken BITS) tt tt)
-    (sized-pick (eqb (opcodeOf token) endOpcode) (pick (eqb token endToken) end (broken BITS)) (headOf v token (entryOf v (opcodeOf token)))
-    (sized-pick (eqb token endToken) end (broken BITS) tt tt)
-    (sized-entry v token (entryOf v (opcodeOf token))))
-
--- so that an instruction is judged alike wherever its first fifteen tokens are shown
+-- nothing but a comment claims more than fifteen tokens behind its first, so that an instruction is judged alike wherever its first fifteen tokens are shown
 module _ (a b : List ℕ) (same : take 15 a ≡ take 15 b) (size : ℕ) (few : size < 16) where
   same-part : take size a ≡ take size b
   same-part = sym (take-take size 15 a (omega arith)) ∙ ap (take size) same ∙ take-take size 15 b (omega arith)
@@ -198,16 +142,17 @@ module _ (a b : List ℕ) (same : take 15 a ≡ take 15 b) (size : ℕ) (few : s
   same-room = room-by (leb size (length a)) refl
 
 module _ (v : Version) (first : ℕ) (a b : List ℕ) (left : ℕ) (same : take 15 a ≡ take 15 b) where
-  shown-by : (h : Head) → Sized h → judgedWith v h first a left ≡ judgedWith v h first b left
-  shown-by (Refused reason) few = rw (leb·zero (length a), leb·zero (length b)) refl
-  shown-by End few = rw (leb·zero (length a), leb·zero (length b)) refl
-  shown-by (Comment n) few = refl
-  shown-by (Declaration size) few = rw (same-room a b same size few, same-part a b same size few) refl
-  shown-by (Operation ps size) few = rw (same-room a b same size few, same-part a b same size few) refl
+  shown-by : (h : Head) → Says v first h → judgedWith v h first a left ≡ judgedWith v h first b left
+  shown-by h (is-broken x) = rw (leb·zero (length a), leb·zero (length b))
+  shown-by h (is-comment o l) = refl
+  shown-by h (is-end n) = rw (leb·zero (length a), leb·zero (length b))
+  shown-by h (is-listed o e l) =
+      let few = fifteen v first h (is-listed o e l) (λ n c. apart (cc)) in
+      rw (same-room a b same (claim h) few, same-part a b same (claim h) few)
 
   shown-alike : judgedIn v first a left ≡ judgedIn v first b left
   unfolding judgedIn
-  shown-alike = shown-by (encoded (tokenHead v first)) (sized v first)
+  shown-alike = shown-by (tokenHead v first) (says v first)
 
 pub judged-shown : (v : Version) (s behind : List ℕ) (at left : ℕ) → at < length s → left ≡ length s - (at + 1) →
     take 15 behind ≡ take 15 (drop (at + 1) s) → judgedIn v (getD s at 0) behind left ≡ judged v (drop at s)

@@ -10,12 +10,12 @@ use Rattle.paper.specs.declared.Class.{Class}
 use Rattle.paper.specs.declared.Operands.{Operands}
 use Rattle.paper.specs.declared.Operands.the-variants.{Fit, Refused as unfit}
 use Rattle.opcodes.specs.Classes.{classNumber}
-use Rattle.told.specs.Numbered.{judgedNumber}
+use Rattle.told.specs.Numbered.{yesNumber, judgedNumber}
 use Rattle.operands.specs.Numbered.{operandsNumber}
 
 -- operands of which 0 is told take an instruction's tokens
 pub operands-number : (o : Operands) (told size : ℕ) (class : Class) → told ≡ operandsNumber o → told ≡ 0 →
-    judgedNumber (onOperands o size class) ≡ 32 * size + 2 * classNumber class
+    judgedNumber (onOperands o size class) ≡ yesNumber size (classNumber class)
 operands-number Fit told size class e z = refl
 operands-number (unfit r) told size class e z = absurd (omega arith)
 

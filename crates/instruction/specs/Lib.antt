@@ -1,3 +1,2 @@
--- An instruction by what it claims, and by what is shown of it.
-pub mod Claimed
+-- An instruction by what is shown of it.
 pub mod Shown

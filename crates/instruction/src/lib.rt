@@ -6,32 +6,15 @@ ghost use lib.ListN.{length};
 ghost use Rattle.paper.specs.InstructionToken.{opcodeOf};
 ghost use Rattle.paper.specs.Blocks.{classOf};
 ghost use Rattle.paper.specs.Dcl.{declaration};
+ghost use Rattle.paper.specs.Instruction.{operandsOf, byHead};
 ghost use Rattle.opcodes.specs.Classes.{classNumber};
-ghost use Rattle.instruction_token.specs.Encoded.{classIn};
+ghost use Rattle.instruction_token.specs.ByShape.{classIn};
 ghost use Rattle.operands.specs.Numbered.{operandsNumber};
 ghost use Rattle.told.specs.Numbered.{judgedNumber};
-ghost use Rattle.instruction.specs.Claimed.{operandsBy, listedIn};
-ghost use Rattle.instruction.specs.Shown.{judgedIn, unlistedIn};
+ghost use Rattle.instruction.specs.Shown.{placesIn, listedHead, judgedIn, unlistedIn};
 use paper::Operands;
+use paper::Reason;
 use paper::Version;
-
-// What is told of an instruction is one number, of told's specs/Numbered.antt: a yes is even, a refusal odd. These are refusals at
-// position 0.
-const OPCODE: u64 = 2 * 3 + 1;
-
-const BITS: u64 = 2 * 4 + 1;
-
-const RUN_OUT: u64 = 2 * 5 + 1;
-
-// The class of END, as a yes of no tokens has it.
-const ENDED: u64 = 2 * 12;
-
-// Opcodes that are judged apart.
-const DCL: u32 = 31;
-
-const COMMENT: u32 = 0xFFFE;
-
-const END: u32 = 0xFFFF;
 
 // The two tokens of a DCL, and no token more.
 fn judge_declared(version: Version, behind: &[u32]) -> u64
@@ -49,9 +32,9 @@ fn judge_declared(version: Version, behind: &[u32]) -> u64
 
 // The operands of an instruction that claims these tokens.
 fn judge_claimed(version: Version, shape: u64, first: u32, behind: &[u32]) -> u64
-    ensures { λ r. ⌜ r ≡ operandsNumber (operandsBy version shape first (now (behind .entry))) ⌝ }
+    ensures { λ r. ⌜ r ≡ operandsNumber (operandsOf version (opcodeOf first) (placesIn shape first) (now (behind .entry))) ⌝ }
 {
-    if first % 0x1_0000 == DCL {
+    if instruction_token::opcode_of(first) == paper::DCL {
         return judge_declared(version, behind);
     }
     operands::judge_operands(version, instruction_token::places_of(shape, first), behind)
@@ -60,15 +43,16 @@ fn judge_claimed(version: Version, shape: u64, first: u32, behind: &[u32]) -> u6
 // An instruction whose opcode has this shape, where the bits of its first token are as they must be.
 fn judge_listed(version: Version, shape: u64, first: u32, behind: &[u32]) -> u64
     requires { ⌜ classIn shape ≡ classNumber (classOf (opcodeOf first)) ⌝ }
-    ensures { λ r. ⌜ r ≡ judgedNumber (listedIn version shape first (now (behind .entry))) ⌝ }
+    ensures { λ r. ⌜ r ≡ judgedNumber (byHead version (listedHead shape first) (opcodeOf first) (now (behind .entry))) ⌝ }
 {
-    let size = (first / 0x100_0000 % 16) as usize;
+    let claim = instruction_token::claim_of(first);
+    let size = claim as usize;
     if behind.len() < size {
-        return RUN_OUT;
+        return told::refused_first(Reason::RunOut);
     }
     let told = judge_claimed(version, shape, first, &behind[..size]);
     if told == 0 {
-        return 32 * (size as u64) + 2 * (shape / 0x200_0000_0000);
+        return told::yes(claim, (shape / 0x200_0000_0000) as u32);
     }
     told
 }
@@ -87,24 +71,24 @@ fn are_there(claimed: usize, shown: usize, beyond: usize) -> bool
 fn judge_unlisted(first: u32, shown: usize, beyond: usize) -> u64
     ensures { λ r. ⌜ r ≡ judgedNumber (unlistedIn first (shown + beyond)) ⌝ }
 {
-    let opcode = first % 0x1_0000;
-    if opcode == COMMENT {
-        if first / 0x8000_0000 % 2 == 0 {
-            let length = (first / 0x1_0000 % 0x8000) as usize;
-            if are_there(length, shown, beyond) {
-                return 32 * (length as u64);
+    let opcode = instruction_token::opcode_of(first);
+    if opcode == paper::COMMENT {
+        if instruction_token::comment_laid(first) {
+            let length = instruction_token::comment_length(first);
+            if are_there(length as usize, shown, beyond) {
+                return told::yes(length, told::COMMENT);
             }
-            return RUN_OUT;
+            return told::refused_first(Reason::RunOut);
         }
-        return BITS;
+        return told::refused_first(Reason::Bits);
     }
-    if opcode == END {
-        if first == END {
-            return ENDED;
+    if opcode == paper::END {
+        if first == paper::END {
+            return told::yes(0, told::END);
         }
-        return BITS;
+        return told::refused_first(Reason::Bits);
     }
-    OPCODE
+    told::refused_first(Reason::Opcode)
 }
 
 // The instruction whose first token this is. Of the tokens behind it the first fifteen are shown, or all, and `beyond` more are there:
@@ -112,12 +96,12 @@ fn judge_unlisted(first: u32, shown: usize, beyond: usize) -> u64
 pub fn judge_first(version: Version, first: u32, behind: &[u32], beyond: usize) -> u64
     ensures { λ r. ⌜ r ≡ judgedNumber (judgedIn version first (now (behind .entry)) (length (now (behind .entry)) + beyond)) ⌝ }
 {
-    let shape = opcodes::shape_of(version, first % 0x1_0000);
+    let shape = opcodes::shape_of(version, instruction_token::opcode_of(first));
     if shape == 0 {
         return judge_unlisted(first, behind.len(), beyond);
     }
     if instruction_token::bits_laid(shape, first) {
         return judge_listed(version, shape, first, &behind[0..]);
     }
-    BITS
+    told::refused_first(Reason::Bits)
 }

@@ -1,2 +1,2 @@
-pub mod Heads
-pub mod OneToOne
+-- What the proofs of the functions share, and the laws that callers use.
+pub mod ByShape

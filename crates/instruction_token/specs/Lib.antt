@@ -1,2 +1,2 @@
--- What an instruction's first token says, as the code hands it on.
-pub mod Encoded
+-- What an instruction's first token says, by the shape of its opcode.
+pub mod ByShape

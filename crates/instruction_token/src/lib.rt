@@ -1,24 +1,34 @@
 // An instruction's first token, by itself: document 01, "Instruction token".
 ghost use mathlib.Core.Path.{_≡_};
-ghost use lib.Dec.{eqb};
-ghost use Rattle.paper.specs.Notation.{pick};
-ghost use Rattle.paper.specs.InstructionToken.{commentLaid, commentLength, endToken};
-ghost use Rattle.paper.specs.Instruction.{tokenHead};
-ghost use Rattle.instruction_token.specs.Encoded.{encoded, toldHead, claimOf, hasZeros, controlsBy, bitsBy, placesBy, headBy};
-use paper::Reason;
-use paper::Version;
+ghost use Rattle.paper.specs.InstructionToken.{opcodeOf, statedSize, commentLaid, commentLength};
+ghost use Rattle.instruction_token.specs.ByShape.{hasZeros, controlsBy, bitsBy, placesBy};
 
-// The predicate's place, of specs/Places.antt of the opcodes.
-const PREDICATE: u64 = 93;
+// Behind its first token nothing but a comment claims more than this.
+pub const MOST_CLAIMED: usize = 15;
 
-// What an instruction's first token says by itself: a refusal, END, a comment and its length, a DCL and its stated size,
-// another instruction's places, a digit of base 128 for each, and its stated size.
-pub enum Head {
-    Refused(Reason),
-    End,
-    Comment(usize),
-    Declaration(usize),
-    Operation(u64, usize),
+pub fn opcode_of(token: u32) -> u32
+    ensures { λ r. ⌜ r ≡ opcodeOf token ⌝ }
+{
+    token % 0x1_0000
+}
+
+// How many tokens an instruction of the table claims behind its first one.
+pub fn claim_of(token: u32) -> u32
+    ensures { λ r. ⌜ r ≡ statedSize token ⌝ }
+{
+    token / 0x100_0000 % 16
+}
+
+pub fn comment_laid(token: u32) -> bool
+    ensures { λ r. ⌜ r ≡ commentLaid token ⌝ }
+{
+    token / 0x8000_0000 % 2 == 0
+}
+
+pub fn comment_length(token: u32) -> u32
+    ensures { λ r. ⌜ r ≡ commentLength token ⌝ }
+{
+    token / 0x1_0000 % 0x8000
 }
 
 // The controls by their rule, of opcodes' specs/Shape.antt.
@@ -59,69 +69,7 @@ pub fn places_of(shape: u64, token: u32) -> u64
 {
     let places = shape % 0x8_0000_0000;
     if token / 0x1000_0000 % 2 == 1 {
-        return places + (PREDICATE << (7 * (shape / 0x8_0000_0000 % 8)));
+        return places + (places::PREDICATE << (7 * (shape / 0x8_0000_0000 % 8)));
     }
     places
-}
-
-fn comment_head(token: u32) -> Head
-    ensures { λ r. ⌜ r ≡ pick (commentLaid token) (Head.Comment (commentLength token)) (Head.Refused Reason.Bits) ⌝ }
-{
-    if token / 0x8000_0000 % 2 == 0 {
-        return Head::Comment((token / 0x1_0000 % 0x8000) as usize);
-    }
-    Head::Refused(Reason::Bits)
-}
-
-fn end_head(token: u32) -> Head
-    ensures { λ r. ⌜ r ≡ pick (eqb token endToken) Head.End (Head.Refused Reason.Bits) ⌝ }
-{
-    if token == 0xFFFF {
-        return Head::End;
-    }
-    Head::Refused(Reason::Bits)
-}
-
-// The head of an instruction whose opcode has this shape.
-fn shape_head(shape: u64, token: u32) -> Head
-    ensures { λ r. ⌜ r ≡ headBy shape token ⌝ }
-{
-    if shape == 0 {
-        return Head::Refused(Reason::Opcode);
-    }
-    if bits_laid(shape, token) {
-        let size = (token / 0x100_0000 % 16) as usize;
-        if token % 0x1_0000 == 31 {
-            return Head::Declaration(size);
-        }
-        return Head::Operation(places_of(shape, token), size);
-    }
-    Head::Refused(Reason::Bits)
-}
-
-// What an instruction's first token says by itself.
-pub fn read_head(version: Version, token: u32) -> Head
-    ensures { λ r. ⌜ toldHead r ≡ toldHead (encoded (tokenHead version token)) ⌝ }
-{
-    let opcode = token % 0x1_0000;
-    if opcode == 0xFFFE {
-        return comment_head(token);
-    }
-    if opcode == 0xFFFF {
-        return end_head(token);
-    }
-    shape_head(opcodes::shape_of(version, opcode), token)
-}
-
-// How many tokens an instruction claims behind its first one. Nothing but a comment claims more than fifteen.
-pub fn claim_of(head: Head) -> usize
-    ensures { λ r. ⌜ r ≡ claimOf head ⌝ }
-{
-    match head {
-        Head::Refused(_) => 0,
-        Head::End => 0,
-        Head::Comment(length) => length,
-        Head::Declaration(size) => size,
-        Head::Operation(_, size) => size,
-    }
 }

@@ -14,7 +14,7 @@ use Rattle.paper.specs.declared.Class.{Class}
 use Rattle.paper.specs.declared.Judged.the-variants.{Good}
 use Rattle.paper.proofs.VersionTokens.{named-back}
 use Rattle.cutting.specs.Cuttings.{Alone}
-use Rattle.cutting.proofs.OwnTokens.{good-alone}
+use Rattle.paper.proofs.OwnTokens.{good-alone}
 use Rattle.records.specs.Record.{recordOf}
 use Rattle.reader.specs.Reading.{got, reading}
 use Rattle.reader.proofs.ReadingUnique.{reading-own}

@@ -4,7 +4,8 @@ use mathlib.Core.Path.{_≡_, refl}
 use mathlib.Core.Bool.{Bool, true, false, _&&_}
 use lib.Dec.{ltb}
 use borrow.Author.Tests.{ltb-true, ltb-false}
-use Rattle.paper.proofs.Below.{both-left, both-right, below, below-at}
+use Rattle.paper.proofs.Below.{below, below-at}
+use Rattle.paper.proofs.Bools.{both-left, both-right}
 use Rattle.paper.specs.declared.Version.{Version}
 use Rattle.paper.specs.declared.Version.the-variants.{V2, V3, P2, P3}
 

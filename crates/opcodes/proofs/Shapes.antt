@@ -21,7 +21,7 @@ use Rattle.opcodes.specs.Classes.{classNumber}
 use Rattle.opcodes.specs.Shape.{controlsRule, predicateStep, shapeIn, shapeOf}
 use Rattle.places.specs.Places.{digits}
 use Rattle.places.specs.Places.{numberBy, decoded}
-use Rattle.paper.proofs.Below.{both-left, both-right}
+use Rattle.paper.proofs.Bools.{both-left, both-right}
 use Rattle.paper.specs.Places.{Entry, absent, listed, entryOf, Place, predicate, isPredicate, typedPlaces}
 use Rattle.opcodes.proofs.Computed.{computed}
 use Rattle.opcodes.proofs.Table.{limit, beyond}

@@ -16,7 +16,7 @@ use Rattle.paper.specs.declared.Version.{Version}
 use Rattle.paper.specs.declared.Version.the-variants.{V2, V3, P2, P3}
 use Rattle.opcodes.specs.Shape.{shapeOf}
 use Rattle.opcodes.specs.Rows.{rank, sincos, rowOf}
-use Rattle.paper.proofs.Below.{both-left, both-right}
+use Rattle.paper.proofs.Bools.{both-left, both-right}
 use Rattle.paper.specs.Places.{absent, entryIn, entryOf, typedPlaces}
 use Rattle.opcodes.proofs.Computed.{computed}
 

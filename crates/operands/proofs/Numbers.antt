@@ -16,7 +16,7 @@ use Rattle.paper.specs.declared.Token.the-variants.{Good as good, Bad as bad}
 use Rattle.paper.specs.declared.Taken.{Taken}
 use Rattle.paper.specs.declared.Taken.the-variants.{Took, Refused as not-taken}
 use Rattle.told.specs.Numbered.{refusalNumber}
-use Rattle.told.proofs.Numbers.{number-few}
+use Rattle.paper.proofs.OneToOne.{number-few}
 use Rattle.operands.specs.Numbered.{takenNumber}
 
 pub token-few : (t : Token) → toldToken t < 16

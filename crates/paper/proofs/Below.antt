@@ -1,18 +1,11 @@
 -- A rule at every number below a bound, proved by one test that is computed.
 use Prim.Native.Nat.{ℕ, zero, suc, _<_}
-use mathlib.Core.Path.{_≡_, refl, ap, _∙_}
-use mathlib.Core.Bool.{Bool, true, false, _&&_}
+use mathlib.Core.Path.{_≡_, ap, _∙_}
+use mathlib.Core.Bool.{Bool, true, _&&_}
 use mathlib.Core.Logic.{⊎-elim}
 use native.Mathlib.Nat.{eq-or-lt-of-le, le-of-suc-le-suc}
 use native.Mathlib.Omega.{arith}
-
-pub both-left : (a b : Bool) → a && b ≡ true → a ≡ true
-both-left true b t = refl
-both-left false b t = t
-
-pub both-right : (a b : Bool) → a && b ≡ true → b ≡ true
-both-right true b t = t
-both-right false b t = let z : _≡_ {A = ℕ} 0 1 = cc in absurd (omega arith)
+use Rattle.paper.proofs.Bools.{both-left, both-right}
 
 abbrev pub below : (ℕ → Bool) → ℕ → Bool
 below rule zero = true

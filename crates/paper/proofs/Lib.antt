@@ -1,5 +1,10 @@
+pub mod Bools
 pub mod Below
 pub mod LowBits
 pub mod VersionTokens
 pub mod OneToOne
+pub mod FirstToken
+pub mod OneInstruction
+pub mod OwnTokens
+pub mod StreamVerdict
 pub mod Vectors

@@ -1,11 +1,10 @@
 -- What is told of an answer leaves one answer: each definition of "The numbers given back" is one-to-one.
 use mathlib.Core.Path.{_≡_, refl, ap, sym, _∙_}
-use mathlib.Core.List.{List, [], _∷_}
 use Prim.Native.Nat.{ℕ, suc, _<_}
 use native.Mathlib.Omega.{arith}
-use lib.ListN.{getD}
+use lib.Dec.{lit<}
 use Rattle.paper.specs.Versions.{named}
-use Rattle.paper.specs.Numbers.{numberOf, refusal, ToldVerdict, told, ToldNamed, toldNamed, toldToken, ToldOperands, toldOperands, ToldInstruction, toldInstruction}
+use Rattle.paper.specs.Numbers.{numberOf, reasonBy, refusal, ToldVerdict, told, ToldNamed, toldNamed, toldToken, ToldOperands, toldOperands, ToldInstruction, toldInstruction}
 use Rattle.paper.proofs.VersionTokens.{named-back}
 use Rattle.paper.specs.declared.Named.{Named}
 use Rattle.paper.specs.declared.Named.the-variants.{Known, Unknown}
@@ -21,16 +20,8 @@ use Rattle.paper.specs.declared.Judged.the-variants.{Good as GoodInstruc
 use Rattle.paper.specs.declared.Verdict.{Verdict}
 use Rattle.paper.specs.declared.Verdict.the-variants.{Accepted, Refused}
 
--- the reasons in the order of their numbers
-byNumber : List Reason
-byNumber = LENGTH ∷ LENGTH ∷ VERSION ∷ OPCODE ∷ BITS ∷ RUN-OUT ∷ SIZE ∷ OPERAND ∷ REGISTER ∷ BLOCK ∷ DEPTH ∷ TAIL ∷ PLACE ∷ ROOM ∷ RECORD ∷ []
-
--- the reason that has a number
-pub reasonFrom : ℕ → Reason
-reasonFrom number = getD byNumber number LENGTH
-
-pub reason-back : (r : Reason) → reasonFrom (numberOf r) ≡ r
-unfolding byNumber reasonFrom
+-- a reason by its number
+pub reason-back : (r : Reason) → reasonBy (numberOf r) ≡ r
 reason-back LENGTH = refl
 reason-back VERSION = refl
 reason-back OPCODE = refl
@@ -47,27 +38,30 @@ reason-back ROOM = refl
 reason-back RECORD = refl
 
 pub same-reason : (a b : Reason) → numberOf a ≡ numberOf b → a ≡ b
-same-reason a b e = sym (reason-back a) ∙ ap reasonFrom e ∙ reason-back b
+same-reason a b e = sym (reason-back a) ∙ ap reasonBy e ∙ reason-back b
 
--- no refusal has the number of a yes
-some : (r : Reason) → 0 < numberOf r
-some LENGTH = omega arith
-some VERSION = omega arith
-some OPCODE = omega arith
-some BITS = omega arith
-some RUN-OUT = omega arith
-some SIZE = omega arith
-some OPERAND = omega arith
-some REGISTER = omega arith
-some BLOCK = omega arith
-some DEPTH = omega arith
-some TAIL = omega arith
-some PLACE = omega arith
-some ROOM = omega arith
-some RECORD = omega arith
+-- no refusal has the number of a yes, and 16 numbers are enough
+bounds : (r : Reason) → (0 < numberOf r) × (numberOf r < 16)
+bounds LENGTH = (lit< tt, lit< tt)
+bounds VERSION = (lit< tt, lit< tt)
+bounds OPCODE = (lit< tt, lit< tt)
+bounds BITS = (lit< tt, lit< tt)
+bounds RUN-OUT = (lit< tt, lit< tt)
+bounds SIZE = (lit< tt, lit< tt)
+bounds OPERAND = (lit< tt, lit< tt)
+bounds REGISTER = (lit< tt, lit< tt)
+bounds BLOCK = (lit< tt, lit< tt)
+bounds DEPTH = (lit< tt, lit< tt)
+bounds TAIL = (lit< tt, lit< tt)
+bounds PLACE = (lit< tt, lit< tt)
+bounds ROOM = (lit< tt, lit< tt)
+bounds RECORD = (lit< tt, lit< tt)
 
 pub no-reason-zero : (r : Reason) → 0 ≡ numberOf r → ⊥
-no-reason-zero r e = omega (arith, some r)
+no-reason-zero r e = omega (arith, bounds r .0)
+
+pub number-few : (r : Reason) → numberOf r < 16
+number-few r = bounds r .1
 
 pub same-refusal : (a b : Refusal) → numberOf (a .reason) ≡ numberOf (b .reason) → a .position ≡ b .position → a ≡ b
 same-refusal a b number position =

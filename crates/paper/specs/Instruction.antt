@@ -29,21 +29,22 @@ use Rattle.paper.specs.declared.Closer.the-variants.{End}
 use Rattle.paper.specs.declared.Judged.{Judged}
 use Rattle.paper.specs.declared.Judged.the-variants.{Good, Refused}
 
--- what an instruction's first token says by itself: a refusal; END; a comment and its length; a DCL and its stated size;
--- another instruction, the places of its operands and its stated size
+-- how many tokens an instruction of the table claims behind its first one: its stated size
+abbrev pub claimed : Version → ℕ → List Place → ℕ
+claimed v token places = statedSize token
+
+-- what an instruction's first token says by itself: a refusal; END; a comment and its length; another instruction, the places of its operands
+-- and what it claims
 pub data Head : Type 0 where
   broken : Reason → Head
   end : Head
   comment : ℕ → Head
-  dcl : ℕ → Head
   operation : List Place → ℕ → Head
 
 abbrev pub headOf : Version → ℕ → Entry → Head
 headOf v token absent = broken OPCODE
 headOf v token (listed places) =
-    pick (bitsLaid v token places)
-    (pick (eqb (opcodeOf token) DCL) (dcl (statedSize token)) (operation (withPredicate (isPredicated token) places) (statedSize token)))
-    (broken BITS)
+    pick (bitsLaid v token places) (operation (withPredicate (isPredicated token) places) (claimed v token places)) (broken BITS)
 
 unfoldable pub tokenHead : Version → ℕ → Head
 tokenHead v token =
@@ -76,22 +77,36 @@ operands v [] offset tokens = leftOver tokens
 operands v (place ∷ rest) offset tokens =
     onTaken (operand v place offset tokens) (λ n. operands v rest (offset + n) (drop n tokens))
 
+-- the operands of an instruction, in the tokens that it claims; DCL's have rules of their own
+abbrev pub operandsOf : Version → ℕ → List Place → List ℕ → Operands
+operandsOf v opcode places behind = pick (eqb opcode DCL) (declaration v behind) (operands v places 1 behind)
+
 abbrev pub onOperands : Operands → ℕ → Class → Judged
 onOperands Fit size class = Good size class
 onOperands (unfit r) size class = Refused r
+
+-- the claim of any instruction
+abbrev pub claim : Head → ℕ
+claim (broken reason) = 0
+claim end = 0
+claim (comment size) = size
+claim (operation places size) = size
+
+-- an instruction with this opcode, where the tokens that it claims are there
+abbrev pub onClaimed : Version → Head → ℕ → List ℕ → Judged
+onClaimed v (broken reason) opcode behind = Refused (refusal reason 0)
+onClaimed v end opcode behind = Good 0 (Closes End)
+onClaimed v (comment size) opcode behind = Good size (One Comment)
+onClaimed v (operation places size) opcode behind = onOperands (operandsOf v opcode places behind) size (classOf opcode)
 
 -- "stated size or comment length passes the end"
 abbrev pub within : ℕ → List ℕ → Judged → Judged
 within size rest next = pick (leb size (length rest)) next (Refused (refusal RUN-OUT 0))
 
-abbrev pub byHead : Version → Head → Class → List ℕ → Judged
-byHead v (broken reason) class rest = Refused (refusal reason 0)
-byHead v end class rest = Good 0 (Closes End)
-byHead v (comment size) class rest = within size rest (Good size (One Comment))
-byHead v (dcl size) class rest = within size rest (onOperands (declaration v (take size rest)) size class)
-byHead v (operation places size) class rest = within size rest (onOperands (operands v places 1 (take size rest)) size class)
+abbrev pub byHead : Version → Head → ℕ → List ℕ → Judged
+byHead v head opcode rest = within (claim head) rest (onClaimed v head opcode (take (claim head) rest))
 
 -- "no token where an instruction must start" is RUN-OUT at the token count
 unfoldable pub judged : Version → List ℕ → Judged
 judged v [] = Refused (refusal RUN-OUT 0)
-judged v (token ∷ rest) = byHead v (tokenHead v token) (classOf (opcodeOf token)) rest
+judged v (token ∷ rest) = byHead v (tokenHead v token) (opcodeOf token) rest

@@ -1,5 +1,7 @@
 -- Document 01, "The numbers given back".
 use Prim.Native.Nat.{ℕ, suc}
+use lib.Dec.{eqb}
+use Rattle.paper.specs.Notation.{pick}
 use Rattle.paper.specs.Versions.{versionToken}
 use Rattle.paper.specs.declared.Named.{Named}
 use Rattle.paper.specs.declared.Named.the-variants.{Known, Unknown}
@@ -33,6 +35,23 @@ numberOf TAIL = 11
 numberOf PLACE = 12
 numberOf ROOM = 13
 numberOf RECORD = 14
+
+-- the reason that has a number
+abbrev pub reasonBy : ℕ → Reason
+reasonBy n =
+    pick (eqb n 1) LENGTH
+    (pick (eqb n 2) VERSION
+    (pick (eqb n 3) OPCODE
+    (pick (eqb n 4) BITS
+    (pick (eqb n 5) RUN-OUT
+    (pick (eqb n 6) SIZE
+    (pick (eqb n 7) OPERAND
+    (pick (eqb n 8) REGISTER
+    (pick (eqb n 9) BLOCK
+    (pick (eqb n 10) DEPTH
+    (pick (eqb n 11) TAIL
+    (pick (eqb n 12) PLACE
+    (pick (eqb n 13) ROOM RECORD))))))))))))
 
 abbrev pub refusal : Reason → ℕ → Refusal
 refusal reason position = record { reason = reason; position = position }

@@ -11,7 +11,7 @@ use lib.Pow.{pow-add}
 use borrow.Author.Tests.{eq-eqb, ne-eqb}
 use Rattle.places.specs.Places.{digits}
 use Rattle.places.specs.Places.{placeBy, numberBy, placesIn, decoded}
-use Rattle.paper.proofs.Below.{both-left, both-right}
+use Rattle.paper.proofs.Bools.{both-left, both-right}
 use Rattle.paper.specs.Places.{Place, predicate}
 use Rattle.paper.specs.InstructionToken.{withPredicate}
 use Rattle.places.proofs.Places.{isPlace, number-small, number-some, place-back}

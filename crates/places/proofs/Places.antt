@@ -8,7 +8,7 @@ use lib.Dec.{eqb, ltb, lit<}
 use borrow.Author.Tests.{eq-eqb, ne-eqb, eqb-true, eqb-false, ltb-true}
 use Rattle.paper.specs.Notation.{pick}
 use Rattle.places.specs.Places.{placeBy, numberBy}
-use Rattle.paper.proofs.Below.{both-left, both-right}
+use Rattle.paper.proofs.Bools.{both-left, both-right}
 use Rattle.paper.specs.Places.{free, only, Place, raw, usage, declared, destination, source, condition, predicate, relative}
 
 -- the places that a number has: those of one type below 28, TEXKILL's, and those with a name

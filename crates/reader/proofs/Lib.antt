@@ -1,5 +1,4 @@
 -- What the proofs of the functions share, and the laws of the reader.
-pub mod Positions
 pub mod Steps
 pub mod ReadingUnique
 pub mod Examples

@@ -1,81 +1,77 @@
--- The reading at a place, by the head of the instruction there and the tokens that it claims.
-use mathlib.Core.Path.{_≡_, sym, ap, _∙_}
+-- The reading at a place, by what is told of the instruction there.
+use mathlib.Core.Path.{_≡_, refl, sym, ap, _∙_}
+use mathlib.Core.Bool.{true, false}
 use mathlib.Core.List.{List, _∷_}
 use Prim.Native.Nat.{ℕ, suc, _+_, _-_, _≤_, _<_}
 use native.Mathlib.Numerals.{add-one}
 use native.Mathlib.Omega.{arith}
-use lib.Dec.{leb}
 use lib.ListN.{length, take, drop, getD, length-drop}
-use lib.Seq.{drop-cons, take-all, length-take-le}
-use borrow.Author.Tests.{le-leb, lt-leb, lt-ltb}
-use Rattle.paper.specs.Notation.{pick}
-use Rattle.paper.specs.Numbers.{refusal}
-use Rattle.paper.specs.Instruction.{tokenHead, judged}
+use lib.Seq.{drop-cons}
+use borrow.Author.Tests.{lt-ltb}
+use Rattle.paper.specs.Numbers.{reasonBy}
+use Rattle.paper.specs.Instruction.{judged}
 use Rattle.paper.specs.declared.Version.{Version}
-use Rattle.paper.specs.declared.Reason.the-variants.{RunOut as RUN-OUT}
+use Rattle.paper.specs.declared.Class.{Class}
+use Rattle.paper.specs.declared.Refusal.{Refusal}
 use Rattle.paper.specs.declared.Judged.{Judged}
 use Rattle.paper.specs.declared.Judged.the-variants.{Good as Lawful, Refused as Unlawful}
-use Rattle.instruction_token.specs.declared.Head.{Head}
-use Rattle.instruction_token.specs.Encoded.{encoded, claimOf}
-use Rattle.instruction.specs.Claimed.{judgedBy}
-use Rattle.instruction.proofs.Claimed.{judged-some}
+use Rattle.paper.proofs.Bools.{apart}
+use Rattle.paper.proofs.OneInstruction.{judged-near}
+use Rattle.paper.proofs.OwnTokens.{good-within}
+use Rattle.opcodes.specs.Classes.{classNumber}
+use Rattle.told.specs.Numbered.{judgedNumber, isRefusal, sizeIn, kindIn}
+use Rattle.told.proofs.Numbers.{yes-even, yes-size, yes-class, refusal-odd, refusal-position, refusal-reason}
+use Rattle.stretches.specs.Stretch.{toldAt}
+use Rattle.stretches.proofs.Stretches.{told-whole}
 use Rattle.records.specs.Record.{recordOf}
-use Rattle.records.specs.Encoded.{placesOf, recordBy, Readable}
-use Rattle.records.proofs.Readable.{record-by-head, readable, claim-good}
+use Rattle.records.specs.ByClass.{rowBy, recordBy, Readable}
+use Rattle.records.proofs.Readable.{good-read}
 use Rattle.reader.specs.Reading.{unread, got, readingAt}
-use Rattle.reader.proofs.Positions.{refused-within}
 
-module _ (v : Version) (s : List ℕ) (at : ℕ) (h : Head) (claim : ℕ) where
-  -- the tokens that the instruction there claims, as the code lends them
+module _ (v : Version) (s : List ℕ) (at told : ℕ) (some : at < length s) (is : told ≡ toldAt v s 0 at) where
+  -- the tokens that a good instruction takes behind its first, as the code lends them
   abbrev behind : List ℕ
-  behind = take (at + 1 + claim - (at + 1)) (drop (at + 1) s)
+  behind = take (at + 1 + sizeIn told - (at + 1)) (drop (at + 1) s)
 
-  -- what the reading is where the instruction is judged so
-  abbrev pub Reads : Judged → Type 0
-  Reads (Lawful size class) =
-      (readingAt v s at ≡ got (at + size + 1) (recordBy h (getD s at 0) behind)) × Readable (placesOf h) behind × (at + size + 1 ≤ length s)
-  Reads (Unlawful r) = (readingAt v s at ≡ unread (r .reason) (at + r .position)) × (at + r .position < length s)
+  -- a good instruction, read, and a refused one
+  pub record Got : Type 0 where
+    pub reads : readingAt v s at ≡ got (at + 1 + sizeIn told) (recordBy (kindIn told) v (getD s at 0) behind)
+    pub readable : Readable (rowBy (kindIn told) v (getD s at 0)) behind
+    pub inside : at + 1 + sizeIn told ≤ length s
 
-  module _ (some : at < length s) (head-is : h ≡ encoded (tokenHead v (getD s at 0))) (claim-is : claim ≡ claimOf h) where
-    judged-here : judged v (drop at s) ≡
-        pick (leb claim (length (drop (at + 1) s))) (judgedBy v h (getD s at 0) (take claim (drop (at + 1) s))) (Unlawful (refusal RUN-OUT 0))
-    judged-here =
-        rw (claim-is, head-is, add-one at, drop-cons s at 0 some)
-        (judged-some v (getD s at 0 ∷ drop (suc at) s) (λ z. omega arith))
+  pub record Unread : Type 0 where
+    pub reads : readingAt v s at ≡ unread (reasonBy (kindIn told)) (at + sizeIn told)
+    pub inside : at + sizeIn told < length s
 
-    record-here : recordOf v (drop at s) ≡ recordBy h (getD s at 0) (take claim (drop (at + 1) s))
-    record-here = rw (claim-is, head-is, add-one at, drop-cons s at 0 some) (record-by-head v (getD s at 0) (drop (suc at) s))
+  tokens : drop at s ≡ getD s at 0 ∷ drop (at + 1) s
+  tokens = rw (add-one at) (drop-cons s at 0 some)
 
-    pub runs-out : length s - (at + 1) < claim → readingAt v s at ≡ unread RUN-OUT at
-    unfolding readingAt
-    runs-out h =
-        let first : at + 0 ≡ at = omega arith in
-        rw (lt-ltb at (length s) some, judged-here, length-drop (at + 1) s, lt-leb claim (length s - (at + 1)) h, first)
+  got-by : (j : Judged) → judged v (drop at s) ≡ j → told ≡ judgedNumber j → isRefusal told ≡ false → Got
+  unfolding readingAt recordOf
+  got-by (Lawful size class) e t f =
+      let long : sizeIn told ≡ size = rw t (yes-size size class) in
+      let kind : kindIn told ≡ classNumber class = rw t (yes-class size class) in
+      let width : at + 1 + size - (at + 1) ≡ size = omega arith in
+      let place : at + size + 1 ≡ at + 1 + size = omega arith in
+      let read = good-read v (getD s at 0) (drop (at + 1) s) size class (rw tokens at e) in
+      record {
+        reads = rw (lt-ltb at (length s) some, e, tokens, long, kind, width, place, read .is);
+        readable = rw (long, kind, width) (read .readable);
+        inside = omega (arith, long, good-within size class v (drop at s) e, length-drop at s);
+      }
+  got-by (Unlawful r) e t f = let odd = sym (refusal-odd r) ∙ ap isRefusal (sym t) ∙ f in apart (cc)
 
-    module _ (there : claim ≤ length s - (at + 1)) where
-      whole : behind ≡ take claim (drop (at + 1) s)
-      whole =
-          let same : at + 1 + claim - (at + 1) ≡ claim = omega arith in
-          rw same
+  unread-by : (j : Judged) → judged v (drop at s) ≡ j → told ≡ judgedNumber j → isRefusal told ≡ true → Unread
+  unfolding readingAt
+  unread-by (Lawful size class) e t f = let even = sym (yes-even size class) ∙ ap isRefusal (sym t) ∙ f in apart (cc)
+  unread-by (Unlawful r) e t f =
+      let place : sizeIn told ≡ r .position = rw t (refusal-position r) in
+      let why : reasonBy (kindIn told) ≡ r .reason = rw t (refusal-reason r) in
+      let near : r .position ≤ length (drop at s) - 1 = rw e at (judged-near v (drop at s)) in
+      record { reads = rw (lt-ltb at (length s) some, e, place, why); inside = omega (arith, place, near, length-drop at s) }
 
-      here : judged v (drop at s) ≡ judgedBy v h (getD s at 0) behind
-      here = rw (judged-here, length-drop (at + 1) s, le-leb claim (length s - (at + 1)) there, whole)
+  pub reads-good : isRefusal told ≡ false → Got
+  reads-good f = got-by (judged v (drop at s)) refl (is ∙ told-whole v s at) f
 
-      long : length behind ≡ claim
-      long = ap length whole ∙ length-take-le claim (drop (at + 1) s) (rw (length-drop (at + 1) s) there)
-
-      by-claim : (j : Judged) → judgedBy v h (getD s at 0) behind ≡ j → Reads j
-      unfolding readingAt
-      by-claim (Lawful size class) e =
-          let same : claimOf h ≡ size = rw head-is (claim-good v (getD s at 0) behind (rw head-is at e)) in (
-            rw (lt-ltb at (length s) some, here, e, record-here, whole),
-            rw head-is (readable v (getD s at 0) behind (rw head-is at e)),
-            omega arith,
-          )
-      by-claim (Unlawful r) e =
-          (rw (lt-ltb at (length s) some, here, e), omega (arith, long, refused-within v r h (getD s at 0) behind e))
-
-      -- the judge is lent all tokens from the place on
-      pub reads-judged : (j : Judged) → judged v (take (length s - at) (drop at s)) ≡ j → Reads j
-      reads-judged j e =
-          by-claim j (sym here ∙ ap (judged v) (sym (take-all (length s - at) (drop at s) (omega (arith, length-drop at s)))) ∙ e)
+  pub reads-refused : isRefusal told ≡ true → Unread
+  reads-refused f = unread-by (judged v (drop at s)) refl (is ∙ told-whole v s at) f

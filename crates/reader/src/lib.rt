@@ -1,15 +1,11 @@
 // The reader: document 01, "Records". One instruction at a place of a stream, judged and read into its record.
 ghost use mathlib.Core.Path.{_≡_};
 ghost use Rattle.reader.specs.Reading.{unread, readingAt, reading, toldReading};
-use paper::Judged;
 use paper::Named;
 use paper::Reason;
 use paper::Refusal;
 use paper::Version;
 use records::Record;
-
-// LENGTH: "over 16,384 only".
-const MOST_TOKENS: usize = 16384;
 
 // The next place, or why there is no instruction.
 pub enum Answer {
@@ -39,28 +35,18 @@ fn read_at(version: Version, tokens: &[u32], at: usize) -> Reading
     if tokens.len() <= at {
         return refused_at(Reason::RunOut, tokens.len());
     }
-    let first = tokens[at];
-    let head = instruction_token::read_head(version, first);
-    let claim = instruction_token::claim_of(head);
-    let from = at + 1;
-    if tokens.len() - from < claim {
-        return refused_at(Reason::RunOut, at);
+    let told = stretches::judge_at(version, tokens, at, 0);
+    if told::is_refused(told) {
+        let reason = told::reason_of(told);
+        return refused_at(reason, at + told::size_of(told));
     }
-    let end = from + claim;
-    let judged = stretches::judge(version, &tokens[at..]);
-    match judged {
-        Judged::Good(size, _) => {
-            let instruction = records::read_record(head, first, &tokens[from..end]);
-            let next = at + size + 1;
-            Reading {
-                answer: Answer::Got(next),
-                instruction,
-            }
-        }
-        Judged::Refused(refusal) => {
-            let reason = refusal.reason;
-            refused_at(reason, at + refusal.position)
-        }
+    let class = told::class_of(told);
+    let from = at + 1;
+    let end = from + told::size_of(told);
+    let instruction = records::read_record(version, class, tokens[at], &tokens[from..end]);
+    Reading {
+        answer: Answer::Got(end),
+        instruction,
     }
 }
 
@@ -68,7 +54,8 @@ fn read_at(version: Version, tokens: &[u32], at: usize) -> Reading
 pub fn read(version: u32, tokens: &[u32], at: usize) -> Reading
     ensures { λ r. ⌜ toldReading r ≡ toldReading (reading version (now (tokens .entry)) at) ⌝ }
 {
-    if MOST_TOKENS < tokens.len() {
+    // LENGTH: "over 16,384 only"
+    if paper::MOST_TOKENS < tokens.len() {
         return refused_at(Reason::Length, 0);
     }
     let named = versions::version_of(version);

@@ -12,7 +12,7 @@ use Rattle.paper.specs.Notation.{pick, bits, bit}
 use Rattle.paper.specs.Versions.{isPixel}
 use Rattle.paper.specs.OperandTokens.{numberField, typeOf, modifierOf, bothLaid, relativeLaid, destinationLaid, sourceLaid, laid, bringsRelative}
 use Rattle.paper.specs.declared.Version.{Version}
-use Rattle.paper.proofs.Below.{both-left, both-right}
+use Rattle.paper.proofs.Bools.{both-left, both-right}
 use Rattle.paper.specs.Places.{Place, relative, isRaw, isDestination, isPredicate}
 use Rattle.opcodes.proofs.Shapes.{unpredicated}
 use Rattle.records.proofs.PlaceKinds.{laid-by, brings-by}

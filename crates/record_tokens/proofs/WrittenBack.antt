@@ -16,7 +16,7 @@ use Rattle.paper.specs.Blocks.{classOf}
 use Rattle.paper.specs.declared.Version.{Version}
 use Rattle.paper.specs.declared.Class.{Class}
 use Rattle.paper.specs.declared.Judged.the-variants.{Good as Lawful}
-use Rattle.paper.proofs.Below.{both-left, both-right}
+use Rattle.paper.proofs.Bools.{both-left, both-right}
 use Rattle.paper.specs.Places.{Place, isPredicate}
 use Rattle.records.specs.declared.Operand.{Operand}
 use Rattle.records.specs.Record.{noOperand, inOrder, predicateOr, padded, arrayOf, declaredPlaces, instructionRecord, recordOn, recordOf}

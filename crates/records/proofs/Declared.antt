@@ -15,16 +15,16 @@ use Rattle.paper.specs.declared.Reason.the-variants.{Operand as OPERAND}
 use Rattle.paper.specs.declared.Token.{Token}
 use Rattle.paper.specs.declared.Token.the-variants.{Good, Bad}
 use Rattle.paper.specs.declared.Operands.the-variants.{Fit}
-use Rattle.paper.proofs.Below.{both-left, both-right}
-use Rattle.paper.specs.Places.{usage as U, declared}
-use Rattle.records.specs.Record.{widthAt, declaredPlaces}
+use Rattle.paper.proofs.Bools.{apart, never, both-left, both-right, or-false}
+use Rattle.paper.specs.Places.{Place, usage as U, declared}
+use Rattle.records.specs.Record.{widthAt}
 use Rattle.records.proofs.Passed.{Passed, AllPassed, none, step, laid-and-typed}
 
--- a declared destination has no relative token
-pub or-false : (a : Bool) → a || false ≡ true → a ≡ true
-or-false true h = refl
-or-false false h = h
+-- DCL's row of the table: U, then its destination
+abbrev pub declaredRow : List Place
+declaredRow = U ∷ declared ∷ []
 
+-- a declared destination has no relative token
 pub declared-laid : (v : Version) (d : ℕ) → declaredAt v d ≡ Good → laid v declared d ≡ true
 declared-laid v d g =
     both-left (laid v declared d) (faceLaid v d)
@@ -35,7 +35,7 @@ declared-plain v d l =
     let pixel = both-right (bothLaid d) _ l in
     let zeros = both-right (eqb (bits 22 21 d) 0 || isPixel v) _ pixel in
     let fixed = both-right (eqb (bit 23 d) 0) _ zeros in
-    eqb-true (bit 13 d) 0 (or-false (eqb (bit 13 d) 0) (both-right (eqb (bits 27 24 d) 0) (relativeLaid v declared d) fixed))
+    eqb-true (bit 13 d) 0 (sym (or-false (eqb (bit 13 d) 0)) ∙ (both-right (eqb (bits 27 24 d) 0) (relativeLaid v declared d) fixed))
 
 -- what a good declaration is
 pub record Declared (v : Version) (u d : ℕ) (rest : List ℕ) : Type 0 where
@@ -46,22 +46,19 @@ pub record Declared (v : Version) (u d : ℕ) (rest : List ℕ) : Type 0 where
 module _ (v : Version) (u d : ℕ) (rest : List ℕ) where
   left-good : (tokens : List ℕ) → leftOver tokens ≡ Fit → tokens ≡ []
   left-good [] e = refl
-  left-good (t ∷ ts) e = let z : _≡_ {A = ℕ} 0 1 = cc in absurd (omega arith)
+  left-good (t ∷ ts) e = apart (cc)
 
   usage-good : (is : Bool) → declaredAt v d ≡ Good → usageLaid v (typeOf d) u ≡ is → pick is (leftOver rest) (refusedOperands OPERAND 1) ≡ Fit → Declared v u d rest
   usage-good true g l e = record { destination = g; usage = l; no-more = left-good rest e }
-  usage-good false g l e = let z : _≡_ {A = ℕ} 0 1 = cc in absurd (omega arith)
+  usage-good false g l e = apart (cc)
 
   token-good : (t : Token) → declaredAt v d ≡ t → onDeclared t (pick (usageLaid v (typeOf d) u) (leftOver rest) (refusedOperands OPERAND 1)) ≡ Fit → Declared v u d rest
   token-good Good g e = usage-good (usageLaid v (typeOf d) u) g refl e
-  token-good (Bad reason) g e = let z : _≡_ {A = ℕ} 0 1 = cc in absurd (omega arith)
+  token-good (Bad reason) g e = apart (cc)
 
   pub declared-good : declaration v (u ∷ (d ∷ rest)) ≡ Fit → Declared v u d rest
   unfolding declaration
   declared-good e = token-good (declaredAt v d) refl e
-
-never : false ≡ true → ⊥
-never e = let z : _≡_ {A = ℕ} 0 1 = cc in omega arith
 
 -- U and the destination of a good declaration
 module _ (v : Version) (u d : ℕ) (l : laid v declared d ≡ true) where
@@ -71,20 +68,20 @@ module _ (v : Version) (u d : ℕ) (l : laid v declared d ≡ true) where
   usage-passed : Passed v U (u ∷ (d ∷ [])) 1
   unfolding widthAt
   usage-passed =
-      record { width = refl; there = omega arith; first-laid = refl; second-laid = λ t. absurd (never t) }
+      record { width = refl; there = omega arith; first-laid = refl; second-laid = λ t. never (sym t) }
 
   destination-passed : Passed v declared (d ∷ []) 1
   unfolding widthAt
   destination-passed =
-      record { width = rw plain; there = omega arith; first-laid = l; second-laid = λ t. absurd (never (sym plain ∙ t)) }
+      record { width = rw plain; there = omega arith; first-laid = l; second-laid = λ t. never (sym t ∙ plain) }
 
-  both-passed : AllPassed v declaredPlaces (u ∷ (d ∷ []))
+  both-passed : AllPassed v declaredRow (u ∷ (d ∷ []))
   both-passed = step usage-passed (step destination-passed none)
 
-pub declared-passed : (v : Version) (behind : List ℕ) → declaration v behind ≡ Fit → AllPassed v declaredPlaces behind
+pub declared-passed : (v : Version) (behind : List ℕ) → declaration v behind ≡ Fit → AllPassed v declaredRow behind
 unfolding declaration
-declared-passed v [] e = let z : _≡_ {A = ℕ} 0 1 = cc in absurd (omega arith)
-declared-passed v (u ∷ []) e = let z : _≡_ {A = ℕ} 0 1 = cc in absurd (omega arith)
+declared-passed v [] e = apart (cc)
+declared-passed v (u ∷ []) e = apart (cc)
 declared-passed v (u ∷ (d ∷ rest)) e =
     let g = declared-good v u d rest e in
     rw (g .no-more) (both-passed v u d (declared-laid v d (g .destination)))

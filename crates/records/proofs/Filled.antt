@@ -12,8 +12,8 @@ use Rattle.paper.specs.Places.{Place, isPredicate}
 use Rattle.places.specs.Places.{placeBy, decoded}
 use Rattle.places.proofs.Decoding.{decoded-zero, decoded-step}
 use Rattle.records.specs.declared.Operand.{Operand}
-use Rattle.records.specs.Record.{noOperand, operandOf, widthAt, operandAt, inOrder, predicateOr, padded, arrayOf, declaredPlaces}
-use Rattle.records.specs.Encoded.{widthOf, ordered}
+use Rattle.records.specs.Record.{noOperand, operandOf, widthAt, operandAt, inOrder, predicateOr, padded, arrayOf}
+use Rattle.records.specs.ByClass.{widthOf, ordered}
 
 -- one operand, by the place of its token
 first-token : (at : ℕ) (behind : List ℕ) → getD (drop at behind) 0 0 ≡ getD behind at 0
@@ -136,8 +136,3 @@ module _ (left : ℕ) (fits : left < 2 ^ 64) (some : left ≡ 0 → ⊥) where
 pub filled-none : (left held : ℕ) (tokens : List ℕ) (operands : List Operand) → left ≡ 0 → filled (decoded left) held tokens operands ≡ operands
 unfolding filled
 filled-none left held tokens operands h = rw (h, decoded-zero)
-
--- DCL's places as the code has them
-pub declared-places : decoded 7810 ≡ declaredPlaces
-unfolding decoded placeBy
-declared-places = refl

@@ -16,7 +16,8 @@ use Rattle.paper.specs.declared.Taken.the-variants.{Took, Refused}
 use Rattle.paper.specs.declared.Operands.the-variants.{Fit}
 use Rattle.paper.specs.Places.{Place, relative}
 use Rattle.records.specs.Record.{widthAt}
-use Rattle.records.specs.Encoded.{widthOf}
+use Rattle.paper.proofs.Bools.{apart}
+use Rattle.records.specs.ByClass.{widthOf}
 
 -- an operand that takes n of the tokens that are left: they are laid out as they should be
 pub record Passed (v : Version) (place : Place) (tokens : List ℕ) (n : ℕ) : Type 0 where
@@ -27,7 +28,7 @@ pub record Passed (v : Version) (place : Place) (tokens : List ℕ) (n : ℕ) : 
 
 pub laid-and-typed : (l t : Bool) → layoutThenType l t ≡ Good → l ≡ true
 laid-and-typed true t e = refl
-laid-and-typed false t e = let z : _≡_ {A = ℕ} 0 1 = cc in absurd (omega arith)
+laid-and-typed false t e = apart (cc)
 
 good-laid : (v : Version) (place : Place) (token : ℕ) → tokenAt v place token ≡ Good → laid v place token ≡ true
 unfolding tokenAt
@@ -40,12 +41,12 @@ module _ (v : Version) (place : Place) (offset n token : ℕ) (good : tokenAt v 
   passed-relative follower rest Good b s e =
       let two : n ≡ 2 = cc in
       record { width = rw b two; there = omega arith; first-laid = good-laid v place token good; second-laid = λ _. good-laid v relative follower s }
-  passed-relative follower rest (Bad reason) b s e = let z : _≡_ {A = ℕ} 0 1 = cc in absurd (omega arith)
+  passed-relative follower rest (Bad reason) b s e = apart (cc)
 
   passed-good : (brings : Bool) (rest : List ℕ) → bringsRelative place token ≡ brings →
       pick brings (relativeToken v (offset + 1) rest) (Took 1) ≡ Took n → Passed v place (token ∷ rest) n
   unfolding widthAt
-  passed-good true [] b e = let z : _≡_ {A = ℕ} 0 1 = cc in absurd (omega arith)
+  passed-good true [] b e = apart (cc)
   passed-good true (follower ∷ rest) b e = passed-relative follower rest (tokenAt v relative follower) b refl e
   passed-good false rest b e =
       let one : n ≡ 1 = cc in
@@ -53,17 +54,17 @@ module _ (v : Version) (place : Place) (offset n token : ℕ) (good : tokenAt v 
         width = rw b one;
         there = omega arith;
         first-laid = good-laid v place token good;
-        second-laid = λ t. let z : _≡_ {A = ℕ} 0 1 = cc in absurd (omega arith);
+        second-laid = λ t. apart (cc);
       }
 
 passed-token : (v : Version) (place : Place) (offset n token : ℕ) (rest : List ℕ) (first : Token) → tokenAt v place token ≡ first →
     onToken first offset (pick (bringsRelative place token) (relativeToken v (offset + 1) rest) (Took 1)) ≡ Took n → Passed v place (token ∷ rest) n
 passed-token v place offset n token rest Good t e = passed-good v place offset n token t (bringsRelative place token) rest refl e
-passed-token v place offset n token rest (Bad reason) t e = let z : _≡_ {A = ℕ} 0 1 = cc in absurd (omega arith)
+passed-token v place offset n token rest (Bad reason) t e = apart (cc)
 
 pub passed : (v : Version) (place : Place) (offset n : ℕ) (tokens : List ℕ) → operand v place offset tokens ≡ Took n → Passed v place tokens n
 unfolding operand
-passed v place offset n [] e = let z : _≡_ {A = ℕ} 0 1 = cc in absurd (omega arith)
+passed v place offset n [] e = apart (cc)
 passed v place offset n (token ∷ rest) e = passed-token v place offset n token rest (tokenAt v place token) refl e
 
 -- the operands of a row take the tokens, no fewer and no more
@@ -79,7 +80,7 @@ step p rest = more (rw (p .width) at p) (rw (p .width) at rest)
 module _ (v : Version) where
   left-none : (tokens : List ℕ) → leftOver tokens ≡ Fit → AllPassed v [] tokens
   left-none [] e = none
-  left-none (token ∷ rest) e = let z : _≡_ {A = ℕ} 0 1 = cc in absurd (omega arith)
+  left-none (token ∷ rest) e = apart (cc)
 
   all-first : (place : Place) (places : List Place) (offset : ℕ) (tokens : List ℕ) (taken : Taken) →
       ((n : ℕ) → operands v places (offset + n) (drop n tokens) ≡ Fit → AllPassed v places (drop n tokens)) →
@@ -87,7 +88,7 @@ module _ (v : Version) where
       AllPassed v (place ∷ places) tokens
   all-first place places offset tokens (Took n) later t e =
       step (passed v place offset n tokens t) (later n e)
-  all-first place places offset tokens (Refused r) later t e = let z : _≡_ {A = ℕ} 0 1 = cc in absurd (omega arith)
+  all-first place places offset tokens (Refused r) later t e = apart (cc)
 
   pub all-passed : (places : List Place) (offset : ℕ) (tokens : List ℕ) → operands v places offset tokens ≡ Fit → AllPassed v places tokens
   unfolding operands

@@ -2,15 +2,12 @@
 use mathlib.Core.Path.{_≡_, refl}
 use mathlib.Core.Bool.{Bool, true, false, not, _&&_}
 use Prim.Native.Nat.{ℕ}
-use native.Mathlib.Omega.{arith}
 use lib.Dec.{eqb}
 use Rattle.paper.specs.Notation.{pick, bit}
 use Rattle.paper.specs.Places.{Place, raw, usage, declared, destination, source, condition, predicate, relative, isRaw, isDestination}
 use Rattle.paper.specs.OperandTokens.{destinationLaid, sourceLaid, laid, bringsRelative}
+use Rattle.paper.proofs.Bools.{never}
 use Rattle.paper.specs.declared.Version.{Version}
-
-never : {A : Type 0} → _≡_ {A = Bool} true false → A
-never e = let z : _≡_ {A = ℕ} 0 1 = cc in absurd (omega arith)
 
 pub laid-by : (v : Version) (place : Place) (token : ℕ) → isRaw place ≡ false →
     laid v place token ≡ pick (isDestination place) (destinationLaid v place token) (sourceLaid v place token)

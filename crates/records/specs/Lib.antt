@@ -1,3 +1,3 @@
--- Document 01, "Records", and the record by the head of an instruction as the code hands it on.
+-- Document 01, "Records", and the record by the class and the shape of an instruction as the code has them.
 pub mod Record
-pub mod Encoded
+pub mod ByClass

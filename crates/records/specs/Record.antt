@@ -6,9 +6,9 @@ use lib.ListN.{take, drop, getD}
 use Rattle.paper.specs.Notation.{bits, bit, pick}
 use Rattle.paper.specs.InstructionToken.{opcodeOf, controlsOf, commentOpcode, commentLength, endOpcode}
 use Rattle.paper.specs.OperandTokens.{numberField, typeOf, modifierOf, bringsRelative}
-use Rattle.paper.specs.Instruction.{Head, broken, end, comment, dcl, operation, tokenHead}
+use Rattle.paper.specs.Instruction.{Head, broken, end, comment, operation, tokenHead}
 use Rattle.paper.specs.declared.Version.{Version}
-use Rattle.paper.specs.Places.{Place, isRaw, isDestination, isPredicate, usage, declared}
+use Rattle.paper.specs.Places.{Place, isRaw, isDestination, isPredicate}
 use Rattle.records.specs.declared.Operand.{Operand}
 use Rattle.records.specs.declared.Record.{Record}
 
@@ -113,10 +113,6 @@ padded (suc n) (operand ∷ operands) = operand ∷ padded n operands
 unfoldable pub arrayOf : List Place → List ℕ → List Operand
 arrayOf places tokens = padded 5 (inOrder places tokens) ++ (predicateOr noOperand places tokens ∷ [])
 
--- DCL's row of the table: U, then its destination
-abbrev pub declaredPlaces : List Place
-declaredPlaces = usage ∷ declared ∷ []
-
 -- a record without operands
 abbrev pub emptyRecord : ℕ → ℕ → Record
 emptyRecord opcode n = record { opcode = opcode; controls = 0; predicated = 0; extent = n; operands = padded 6 [] }
@@ -139,7 +135,6 @@ abbrev pub recordOn : Head → ℕ → List ℕ → Record
 recordOn (broken reason) first rest = noRecord
 recordOn end first rest = endRecord
 recordOn (comment n) first rest = commentRecord (commentLength first)
-recordOn (dcl size) first rest = instructionRecord first (arrayOf declaredPlaces (take size rest))
 recordOn (operation places size) first rest = instructionRecord first (arrayOf places (take size rest))
 
 -- the record of the instruction at the front of these tokens

@@ -6,20 +6,13 @@ ghost use Rattle.paper.specs.Notation.{pick};
 ghost use Rattle.paper.specs.Places.{isPredicate};
 ghost use Rattle.places.specs.Places.{placeBy, decoded};
 ghost use Rattle.records.specs.Record.{rawOperand, destinationOperand, sourceOperand, operandOf, widthAt, operandAt, arrayOf, emptyRecord, noRecord, instructionRecord};
-ghost use Rattle.records.specs.Encoded.{placesOf, recordBy, Readable};
-use instruction_token::Head;
+ghost use Rattle.records.specs.ByClass.{rowBy, recordBy, Readable};
+use paper::Version;
 
-// Places, by their numbers in specs/Places.antt of the opcodes.
-const RAW: u64 = 1;
+// "a fixed array of operands": so many, the predicate's behind the others.
+pub const OPERANDS: usize = 6;
 
-const USAGE: u64 = 2;
-
-const PREDICATE: u64 = 93;
-
-// DCL's row, a digit of base 128 for each place: U, and the destination.
-const DECLARED: u64 = 61;
-
-const DECLARED_PLACES: u64 = USAGE + 128 * DECLARED;
+pub const PREDICATE_SLOT: usize = 5;
 
 // An operand: the fields of its token and of its relative token, or the 32 bits of a raw one.
 #[repr(C)]
@@ -44,7 +37,7 @@ pub struct Record {
     pub controls: u32,
     pub predicated: u32,
     pub extent: u32,
-    pub operands: [Operand; 6],
+    pub operands: [Operand; OPERANDS],
 }
 
 fn raw_operand(token: u32) -> Operand
@@ -105,10 +98,10 @@ fn source_operand(token: u32, relative: u32) -> Operand
 fn operand_of(place: u64, token: u32, relative: u32) -> Operand
     ensures { λ r. ⌜ r ≡ operandOf (placeBy place) token relative ⌝ }
 {
-    if (place == RAW) | (place == USAGE) {
+    if places::is_raw(place) {
         return raw_operand(token);
     }
-    if place / 32 == 1 {
+    if places::is_destination(place) {
         return destination_operand(token, relative);
     }
     source_operand(token, relative)
@@ -144,35 +137,43 @@ fn read_operand(place: u64, behind: &[u32], at: usize) -> Step
 fn slot_of(place: u64, held: usize) -> usize
     ensures { λ r. ⌜ r ≡ pick (isPredicate (placeBy place)) 5 held ⌝ }
 {
-    if place == PREDICATE { 5 } else { held }
+    if place == places::PREDICATE {
+        PREDICATE_SLOT
+    } else {
+        held
+    }
 }
 
 fn count_with(place: u64, held: usize) -> usize
     requires { ⌜ held ≤ 5 ⌝ }
     ensures { λ r. ⌜ r ≡ pick (isPredicate (placeBy place)) held (held + 1) ⌝ }
 {
-    if place == PREDICATE { held } else { held + 1 }
+    if place == places::PREDICATE {
+        held
+    } else {
+        held + 1
+    }
 }
 
 // The operands of a row of places, read from the tokens behind the instruction token.
-fn read_operands(places: u64, behind: &[u32]) -> [Operand; 6]
+fn read_operands(places: u64, behind: &[u32]) -> [Operand; OPERANDS]
     requires { ⌜ Readable (decoded places) (now behind) ⌝ }
     ensures { λ r. ⌜ r ≡ arrayOf (decoded places) (now (behind .entry)) ⌝ }
 {
     let unused = raw_operand(0);
-    let mut operands = [unused; 6];
+    let mut operands = [unused; OPERANDS];
     let mut left = places;
     let mut at = 0;
     let mut held = 0;
     while left != 0 {
-        let place = left % 128;
+        let place = left % places::BASE;
         let step = read_operand(place, behind, at);
         let slot = slot_of(place, held);
         let operand = step.operand;
         operands[slot] = operand;
         at = step.next;
         held = count_with(place, held);
-        left = left / 128;
+        left = left / places::BASE;
     }
     operands
 }
@@ -181,7 +182,7 @@ fn empty_record(opcode: u32, extent: u32) -> Record
     ensures { λ r. ⌜ r ≡ emptyRecord opcode extent ⌝ }
 {
     let none = raw_operand(0);
-    let operands = [none; 6];
+    let operands = [none; OPERANDS];
     Record {
         opcode,
         controls: 0,
@@ -212,16 +213,17 @@ pub fn no_record() -> Record
     empty_record(0, 0)
 }
 
-// The record of an instruction from its head, its first token and the tokens that it claims behind it.
-pub fn read_record(head: Head, first: u32, behind: &[u32]) -> Record
-    requires { ⌜ Readable (placesOf head) (now behind) ⌝ }
-    ensures { λ r. ⌜ r ≡ recordBy head first (now (behind .entry)) ⌝ }
+// The record of an instruction of a class, from its first token and the tokens that it takes behind it.
+pub fn read_record(version: Version, class: u32, first: u32, behind: &[u32]) -> Record
+    requires { ⌜ Readable (rowBy class version first) (now behind) ⌝ }
+    ensures { λ r. ⌜ r ≡ recordBy class version first (now (behind .entry)) ⌝ }
 {
-    match head {
-        Head::Refused(_) => empty_record(0, 0),
-        Head::End => empty_record(0xFFFF, 0),
-        Head::Comment(_) => empty_record(0xFFFE, first / 0x1_0000 % 0x8000),
-        Head::Declaration(_) => instruction_record(first, DECLARED_PLACES, behind),
-        Head::Operation(places, _) => instruction_record(first, places, behind),
+    if class == told::COMMENT {
+        return empty_record(paper::COMMENT, instruction_token::comment_length(first));
     }
+    if class == told::END {
+        return empty_record(paper::END, 0);
+    }
+    let shape = opcodes::shape_of(version, instruction_token::opcode_of(first));
+    instruction_record(first, instruction_token::places_of(shape, first), behind)
 }

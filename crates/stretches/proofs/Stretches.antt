@@ -12,9 +12,8 @@ use borrow.Author.Tests.{eqb-true, eqb-false, eq-eqb, ne-eqb, lt-ltb, le-ltb, lt
 use Rattle.paper.specs.Notation.{pick}
 use Rattle.paper.specs.Numbers.{refusal}
 use Rattle.paper.specs.InstructionToken.{opcodeOf}
-use Rattle.paper.specs.Dcl.{declaration}
 use Rattle.paper.specs.Blocks.{classOf}
-use Rattle.paper.specs.Instruction.{tokenHead, operands, onOperands, judged}
+use Rattle.paper.specs.Instruction.{Head, broken, end, comment, operation, tokenHead, operandsOf, onOperands, judged}
 use Rattle.paper.specs.declared.Version.{Version}
 use Rattle.paper.specs.declared.Refusal.{Refusal}
 use Rattle.paper.specs.declared.Reason.the-variants.{RunOut as RUN-OUT}
@@ -22,50 +21,44 @@ use Rattle.paper.specs.declared.Operands.{Operands}
 use Rattle.paper.specs.declared.Operands.the-variants.{Fit, Refused as unfit}
 use Rattle.paper.specs.declared.Class.{Class}
 use Rattle.paper.specs.declared.Class.the-variants.{One}
-use Rattle.paper.specs.declared.Single.the-variants.{Comment as A-comment, Plain}
+use Rattle.paper.specs.declared.Single.the-variants.{Comment, Plain}
 use Rattle.paper.specs.declared.Judged.{Judged}
 use Rattle.paper.specs.declared.Judged.the-variants.{Good, Refused as Unfit}
-use Rattle.places.specs.Places.{decoded}
 use Rattle.opcodes.proofs.Shapes.{class-few}
-use Rattle.told.specs.Numbered.{refusalNumber, judgedNumber, judgedFrom}
-use Rattle.instruction_token.specs.declared.Head.{Head}
-use Rattle.instruction_token.specs.declared.Head.the-variants.{Refused, End, Comment, Declaration, Operation}
-use Rattle.instruction_token.specs.Encoded.{encoded}
+use Rattle.told.specs.Numbered.{refusalNumber, judgedNumber, judgedFrom, isPlain, sizeIn}
 use Rattle.stretches.specs.declared.Stretch.{Stretch}
 use Rattle.instruction.specs.Shown.{judgedWith, judgedIn}
-use Rattle.stretches.specs.Stretch.{toldAt, isPlain, nextAt, PlainTo, here, past, Stretched}
+use Rattle.stretches.specs.Stretch.{toldAt, nextAt, PlainTo, here, past, Stretched}
 use Rattle.told.proofs.Numbers.{judged-back}
-use Rattle.instruction.proofs.Claimed.{judged-none}
-use Rattle.instruction.proofs.Judging.{judged-shown}
+use Rattle.instruction.proofs.Judging.{judged-none, judged-shown}
 
 -- a refusal is not plain, and a plain instruction takes tokens that are shown
 odd-plain : (r : Refusal) → isPlain (refusalNumber r) ≡ true → ⊥
 odd-plain r h = let e : refusalNumber r % 32 ≡ 2 = eqb-true (refusalNumber r % 32) 2 h in omega arith
 
-module _ (shown size : ℕ) (class : Class) where
-  size-by : (fits : Bool) (o : Operands) → leb size shown ≡ fits →
-      isPlain (judgedNumber (pick fits (onOperands o size class) (Unfit (refusal RUN-OUT 0)))) ≡ true →
-      judgedNumber (pick fits (onOperands o size class) (Unfit (refusal RUN-OUT 0))) / 32 ≤ shown
-  size-by true Fit e h = let few = class-few class in omega (arith, leb-true size shown e)
-  size-by true (unfit r) e h = absurd (odd-plain r h)
-  size-by false o e h = absurd (odd-plain (refusal RUN-OUT 0) h)
-
 module _ (v : Version) (first : ℕ) (behind : List ℕ) (left : ℕ) where
-  comment-by : (n : ℕ) (fits : Bool) → isPlain (judgedNumber (pick fits (Good n (One A-comment)) (Unfit (refusal RUN-OUT 0)))) ≡ true → ⊥
-  comment-by n true h = let e : 32 * n % 32 ≡ 2 = eqb-true (32 * n % 32) 2 (rw (add-zero (32 * n)) at h) in omega arith
-  comment-by n false h = odd-plain (refusal RUN-OUT 0) h
+  on-operands : (o : Operands) (size : ℕ) (class : Class) (fits : Bool) → leb size (length behind) ≡ fits →
+      isPlain (judgedNumber (pick fits (onOperands o size class) (Unfit (refusal RUN-OUT 0)))) ≡ true →
+      sizeIn (judgedNumber (pick fits (onOperands o size class) (Unfit (refusal RUN-OUT 0)))) ≤ length behind
+  on-operands Fit size class true e h = let few = class-few class in omega (arith, leb-true size (length behind) e)
+  on-operands (unfit r) size class true e h = absurd (odd-plain r h)
+  on-operands o size class false e h = absurd (odd-plain (refusal RUN-OUT 0) h)
+
+  on-comment : (n : ℕ) (fits : Bool) → isPlain (judgedNumber (pick fits (Good n (One Comment)) (Unfit (refusal RUN-OUT 0)))) ≡ true → ⊥
+  on-comment n true h = let e : 32 * n % 32 ≡ 2 = eqb-true (32 * n % 32) 2 (rw (add-zero (32 * n)) at h) in omega arith
+  on-comment n false h = odd-plain (refusal RUN-OUT 0) h
 
   plain-by : (h : Head) → isPlain (judgedNumber (judgedWith v h first behind left)) ≡ true →
-      judgedNumber (judgedWith v h first behind left) / 32 ≤ length behind
-  plain-by (Refused reason) p = absurd (odd-plain (refusal reason 0) (rw (leb·zero (length behind)) at p))
-  plain-by End p = absurd (let e : 24 % 32 ≡ 2 = eqb-true (24 % 32) 2 (rw (leb·zero (length behind)) at p) in omega arith)
-  plain-by (Comment n) p = absurd (comment-by n (leb n left) p)
-  plain-by (Declaration size) p = size-by (length behind) size (classOf (opcodeOf first)) (leb size (length behind)) (declaration v (take size behind)) refl p
-  plain-by (Operation ps size) p = size-by (length behind) size (classOf (opcodeOf first)) (leb size (length behind)) (operands v (decoded ps) 1 (take size behind)) refl p
+      sizeIn (judgedNumber (judgedWith v h first behind left)) ≤ length behind
+  plain-by (broken reason) p = absurd (odd-plain (refusal reason 0) (rw (leb·zero (length behind)) at p))
+  plain-by end p = absurd (let e : 24 % 32 ≡ 2 = eqb-true (24 % 32) 2 (rw (leb·zero (length behind)) at p) in omega arith)
+  plain-by (comment n) p = absurd (on-comment n (leb n left) p)
+  plain-by (operation places size) p =
+      on-operands (operandsOf v (opcodeOf first) places (take size behind)) size (classOf (opcodeOf first)) (leb size (length behind)) refl p
 
-  plain-size : isPlain (judgedNumber (judgedIn v first behind left)) ≡ true → judgedNumber (judgedIn v first behind left) / 32 ≤ length behind
+  plain-size : isPlain (judgedNumber (judgedIn v first behind left)) ≡ true → sizeIn (judgedNumber (judgedIn v first behind left)) ≤ length behind
   unfolding judgedIn
-  plain-size p = plain-by (encoded (tokenHead v first)) p
+  plain-size p = plain-by (tokenHead v first) p
 
 module _ (v : Version) (tokens : List ℕ) (beyond at : ℕ) where
   -- what is told where a token is, and where none is
@@ -111,22 +104,19 @@ module _
     is : told ≡ toldAt v tokens beyond at
     is = told-is v tokens beyond at h told e
 
-    plain : told % 32 ≡ 2 → isPlain (toldAt v tokens beyond at) ≡ true
-    plain p = rw (← is) (eq-eqb (told % 32) 2 p)
+    pub turn-inside : isPlain told ≡ true → nextAt at told ≤ length tokens
+    turn-inside p = rw is (plain-next v tokens beyond at (rw is at p))
 
-    pub turn-inside : told % 32 ≡ 2 → nextAt at told ≤ length tokens
-    turn-inside p = rw is (plain-next v tokens beyond at (plain p))
-
-    pub turn-on : told % 32 ≡ 2 → nextAt at told < stop → PlainTo v tokens beyond stop start (nextAt at told) (count + 1)
+    pub turn-on : isPlain told ≡ true → nextAt at told < stop → PlainTo v tokens beyond stop start (nextAt at told) (count + 1)
     turn-on p before =
         let one : count + 1 ≡ suc count = omega arith in
-        rw (is, one) (past l (plain p) (rw is at before))
+        rw (is, one) (past l (rw is at p) (rw is at before))
 
-    pub turn-last : (told % 32 ≡ 2 → ⊥) → Stretched v tokens start stop beyond (record { at = at; count = count; told = told })
-    turn-last other = record { leads = l; is = is; ends = rw (ne-eqb (told % 32) 2 other) refl }
+    pub turn-last : isPlain told ≡ false → Stretched v tokens start stop beyond (record { at = at; count = count; told = told })
+    turn-last other = record { leads = l; is = is; ends = rw other refl }
 
-    pub turn-stop : told % 32 ≡ 2 → stop ≤ nextAt at told → Stretched v tokens start stop beyond (record { at = at; count = count; told = told })
-    turn-stop p stops = record { leads = l; is = is; ends = rw (eq-eqb (told % 32) 2 p, le-ltb (nextAt at told) stop stops) refl }
+    pub turn-stop : isPlain told ≡ true → stop ≤ nextAt at told → Stretched v tokens start stop beyond (record { at = at; count = count; told = told })
+    turn-stop p stops = record { leads = l; is = is; ends = rw (p, le-ltb (nextAt at told) stop stops) refl }
 
 -- where the next instruction may not begin before a stop, the stretch has no more than one
 pub leads-one : {v : Version} {tokens : List ℕ} {beyond start at n : ℕ} → PlainTo v tokens beyond 0 start at n → at ≡ start
@@ -186,16 +176,16 @@ module _ (v : Version) (s : List ℕ) where
         (ap (take 15) (part-rest ∙ take-all (n - (at + 1)) (drop (start + at + 1) s) (omega (arith, length-drop (start + at + 1) s))))
 
 -- a plain instruction, told back
-pub plain-from : (told : ℕ) → isPlain told ≡ true → judgedFrom told ≡ Good (told / 32) (One Plain)
+pub plain-from : (told : ℕ) → isPlain told ≡ true → judgedFrom told ≡ Good (sizeIn told) (One Plain)
 unfolding judgedFrom
 plain-from told p =
     let kind : told % 32 ≡ 2 = eqb-true (told % 32) 2 p in
-    let halved : told / 2 ≡ 16 * (told / 32) + 1 = omega arith in
+    let halved : told / 2 ≡ 16 * sizeIn told + 1 = omega arith in
     let even : told % 2 ≡ 0 = omega arith in
     let plainly : told / 2 % 16 ≡ 1 = rw halved (omega arith) in
     rw (even, plainly) refl
 
-pub plain-judged : (j : Judged) (told : ℕ) → told ≡ judgedNumber j → isPlain told ≡ true → j ≡ Good (told / 32) (One Plain)
+pub plain-judged : (j : Judged) (told : ℕ) → told ≡ judgedNumber j → isPlain told ≡ true → j ≡ Good (sizeIn told) (One Plain)
 plain-judged j told e p = sym (ap judgedFrom e ∙ judged-back j) ∙ plain-from told p
 
 -- a stretch has one answer

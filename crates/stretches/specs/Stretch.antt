@@ -1,15 +1,15 @@
 -- A stretch of plain instructions, and the instruction at its end.
-use Prim.Native.Nat.{ℕ, suc, _+_, _/_, _%_, _<_}
+use Prim.Native.Nat.{ℕ, suc, _+_, _<_}
 use mathlib.Core.Path.{_≡_}
-use mathlib.Core.Bool.{Bool, true, false, _&&_}
+use mathlib.Core.Bool.{true, false, _&&_}
 use mathlib.Core.List.{List}
-use lib.Dec.{eqb, ltb}
+use lib.Dec.{ltb}
 use lib.ListN.{length, drop, getD}
 use Rattle.paper.specs.Notation.{pick}
 use Rattle.paper.specs.Numbers.{refusal}
 use Rattle.paper.specs.declared.Version.{Version}
 use Rattle.paper.specs.declared.Reason.the-variants.{RunOut as RUN-OUT}
-use Rattle.told.specs.Numbered.{refusalNumber, judgedNumber}
+use Rattle.told.specs.Numbered.{refusalNumber, judgedNumber, isPlain, sizeIn}
 use Rattle.stretches.specs.declared.Stretch.{Stretch}
 use Rattle.instruction.specs.Shown.{judgedIn}
 
@@ -20,13 +20,9 @@ toldAt v tokens beyond at =
     (judgedNumber (judgedIn v (getD tokens at 0) (drop (at + 1) tokens) (length (drop (at + 1) tokens) + beyond)))
     (refusalNumber (refusal RUN-OUT 0))
 
--- it neither opens nor closes a block, and may stand anywhere: class 1, doubled, below the size
-abbrev pub isPlain : ℕ → Bool
-isPlain told = eqb (told % 32) 2
-
 -- the place behind it
 abbrev pub nextAt : ℕ → ℕ → ℕ
-nextAt at told = at + 1 + told / 32
+nextAt at told = at + 1 + sizeIn told
 
 -- so many plain instructions lead from one place to another, and those behind the first begin before `stop`
 pub data PlainTo (v : Version) (tokens : List ℕ) (beyond stop start : ℕ) : ℕ → ℕ → Type 0 where

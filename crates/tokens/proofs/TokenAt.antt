@@ -18,7 +18,7 @@ use Rattle.places.proofs.Places.{by-place}
 use Rattle.paper.specs.Numbers.{toldToken}
 use Rattle.paper.specs.declared.Version.{Version}
 use Rattle.paper.specs.declared.Token.the-variants.{Good}
-use Rattle.paper.proofs.Below.{both-left, both-right}
+use Rattle.paper.proofs.Bools.{both-left, both-right}
 use Rattle.paper.specs.Places.{free, only, Place, raw, usage, declared, destination, source, condition, predicate, relative, freeSource, freeDestination, isRaw}
 use Rattle.tokens.specs.Plain.{plainSource, plainDestination}
 

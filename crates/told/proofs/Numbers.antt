@@ -1,37 +1,21 @@
 -- What a number of specs/Numbered.antt tells, told back.
 use mathlib.Core.Path.{_≡_, refl}
-use Prim.Native.Nat.{_+_, _*_, _/_, _%_, _<_}
+use mathlib.Core.Bool.{true, false}
+use Prim.Native.Nat.{ℕ, _+_, _*_, _/_, _%_}
 use native.Mathlib.Omega.{arith}
-use lib.Dec.{lit<}
-use Rattle.paper.specs.Numbers.{numberOf}
-use Rattle.paper.specs.declared.Reason.{Reason}
-use Rattle.paper.specs.declared.Reason.the-variants.{Length, Version, Opcode, Bits, RunOut, Size, Operand, Register, Block, Depth, Tail, Place, Room, Record}
+use Rattle.paper.specs.Numbers.{numberOf, reasonBy}
+use Rattle.paper.proofs.OneToOne.{reason-back, number-few}
 use Rattle.paper.specs.declared.Single.the-variants.{Comment, Plain, Break, Label, Return}
 use Rattle.paper.specs.declared.Opener.the-variants.{If, Loop, Rep}
 use Rattle.paper.specs.declared.Closer.the-variants.{Else, EndIf, EndLoop, EndRep, End}
+use Rattle.paper.specs.declared.Refusal.{Refusal}
 use Rattle.paper.specs.declared.Class.{Class}
 use Rattle.paper.specs.declared.Class.the-variants.{One, Opens, Closes}
 use Rattle.paper.specs.declared.Judged.{Judged}
 use Rattle.paper.specs.declared.Judged.the-variants.{Good, Refused}
 use Rattle.opcodes.specs.Classes.{classNumber}
 use Rattle.opcodes.proofs.Shapes.{class-few}
-use Rattle.told.specs.Numbered.{classBy, reasonBy, judgedNumber, judgedFrom}
-
-pub number-few : (r : Reason) → numberOf r < 16
-number-few Length = lit< tt
-number-few Version = lit< tt
-number-few Opcode = lit< tt
-number-few Bits = lit< tt
-number-few RunOut = lit< tt
-number-few Size = lit< tt
-number-few Operand = lit< tt
-number-few Register = lit< tt
-number-few Block = lit< tt
-number-few Depth = lit< tt
-number-few Tail = lit< tt
-number-few Place = lit< tt
-number-few Room = lit< tt
-number-few Record = lit< tt
+use Rattle.told.specs.Numbered.{refusalNumber, judgedNumber, isRefusal, sizeIn, kindIn, classBy, judgedFrom}
 
 class-back : (c : Class) → classBy (classNumber c) ≡ c
 class-back (One Comment) = refl
@@ -48,37 +32,35 @@ class-back (Closes EndLoop) = refl
 class-back (Closes EndRep) = refl
 class-back (Closes End) = refl
 
-reason-back : (r : Reason) → reasonBy (numberOf r) ≡ r
-reason-back Length = refl
-reason-back Version = refl
-reason-back Opcode = refl
-reason-back Bits = refl
-reason-back RunOut = refl
-reason-back Size = refl
-reason-back Operand = refl
-reason-back Register = refl
-reason-back Block = refl
-reason-back Depth = refl
-reason-back Tail = refl
-reason-back Place = refl
-reason-back Room = refl
-reason-back Record = refl
+-- the fields of a yes, and of a refusal
+module _ (size : ℕ) (class : Class) where
+  pub yes-even : isRefusal (judgedNumber (Good size class)) ≡ false
+  yes-even = let even : (32 * size + 2 * classNumber class) % 2 ≡ 0 = omega arith in rw even
+
+  pub yes-size : sizeIn (judgedNumber (Good size class)) ≡ size
+  yes-size = let few = class-few class in omega arith
+
+  pub yes-class : kindIn (judgedNumber (Good size class)) ≡ classNumber class
+  yes-class =
+      let few = class-few class in
+      let halved : (32 * size + 2 * classNumber class) / 2 ≡ 16 * size + classNumber class = omega arith in
+      rw halved (omega arith)
+
+module _ (r : Refusal) where
+  pub refusal-odd : isRefusal (refusalNumber r) ≡ true
+  refusal-odd = let odd : (32 * (r .position) + (2 * numberOf (r .reason) + 1)) % 2 ≡ 1 = omega arith in rw odd
+
+  pub refusal-position : sizeIn (refusalNumber r) ≡ r .position
+  refusal-position = let few = number-few (r .reason) in omega arith
+
+  pub refusal-reason : reasonBy (kindIn (refusalNumber r)) ≡ r .reason
+  refusal-reason =
+      let few = number-few (r .reason) in
+      let halved : (32 * (r .position) + (2 * numberOf (r .reason) + 1)) / 2 ≡ 16 * (r .position) + numberOf (r .reason) = omega arith in
+      let kind : kindIn (refusalNumber r) ≡ numberOf (r .reason) = rw halved (omega arith) in
+      rw kind (reason-back (r .reason))
 
 pub judged-back : (j : Judged) → judgedFrom (judgedNumber j) ≡ j
 unfolding judgedFrom
-judged-back (Good size class) =
-    let few = class-few class in
-    let k = classNumber class in
-    let halved : (32 * size + 2 * k) / 2 ≡ 16 * size + k = omega arith in
-    let even : (32 * size + 2 * k) % 2 ≡ 0 = omega arith in
-    let takes : (32 * size + 2 * k) / 32 ≡ size = omega arith in
-    let kind : (32 * size + 2 * k) / 2 % 16 ≡ k = rw halved (omega arith) in
-    rw (even, takes, kind, class-back class) refl
-judged-back (Refused r) =
-    let few = number-few (r .reason) in
-    let k = numberOf (r .reason) in
-    let halved : (32 * (r .position) + (2 * k + 1)) / 2 ≡ 16 * (r .position) + k = omega arith in
-    let odd : (32 * (r .position) + (2 * k + 1)) % 2 ≡ 1 = omega arith in
-    let place : (32 * (r .position) + (2 * k + 1)) / 32 ≡ r .position = omega arith in
-    let why : (32 * (r .position) + (2 * k + 1)) / 2 % 16 ≡ k = rw halved (omega arith) in
-    rw (odd, place, why, reason-back (r .reason)) refl
+judged-back (Good size class) = rw (yes-even size class, yes-size size class, yes-class size class, class-back class)
+judged-back (Refused r) = rw (refusal-odd r, refusal-position r, refusal-reason r)

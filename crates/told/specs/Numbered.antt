@@ -3,11 +3,9 @@ use Prim.Native.Nat.{ℕ, _+_, _*_, _/_, _%_}
 use mathlib.Core.Bool.{Bool}
 use lib.Dec.{eqb}
 use Rattle.paper.specs.Notation.{pick}
-use Rattle.paper.specs.Numbers.{numberOf, refusal}
+use Rattle.paper.specs.Numbers.{numberOf, reasonBy, refusal}
 use Rattle.opcodes.specs.Classes.{classNumber}
 use Rattle.paper.specs.declared.Refusal.{Refusal}
-use Rattle.paper.specs.declared.Reason.{Reason}
-use Rattle.paper.specs.declared.Reason.the-variants.{Length as LENGTH, Version as VERSION, Opcode as OPCODE, Bits as BITS, RunOut as RUN-OUT, Size as SIZE, Operand as OPERAND, Register as REGISTER, Block as BLOCK, Depth as DEPTH, Tail as TAIL, Place as PLACE, Room as ROOM, Record as RECORD}
 use Rattle.paper.specs.declared.Single.the-variants.{Comment, Plain, Break, Label, Return}
 use Rattle.paper.specs.declared.Opener.the-variants.{If, Loop, Rep}
 use Rattle.paper.specs.declared.Closer.the-variants.{Else, EndIf, EndLoop, EndRep, End}
@@ -31,18 +29,21 @@ abbrev pub judgedNumber : Judged → ℕ
 judgedNumber (Good size class) = yesNumber size (classNumber class)
 judgedNumber (Refused r) = refusalNumber r
 
--- back from the number: whether it is a refusal's; the size, and a refusal's position; whether it is the yes of a plain instruction, which
--- has class 1
+-- back from the number: whether it is a refusal's; the size, and a refusal's position; the number of the class, and a refusal's; whether it
+-- is the yes of a plain instruction, which has class 1
 abbrev pub isRefusal : ℕ → Bool
 isRefusal told = eqb (told % 2) 1
 
 abbrev pub sizeIn : ℕ → ℕ
 sizeIn told = told / 32
 
+abbrev pub kindIn : ℕ → ℕ
+kindIn told = told / 2 % 16
+
 abbrev pub isPlain : ℕ → Bool
 isPlain told = eqb (told % 32) 2
 
--- the class, and the reason
+-- the class
 abbrev pub classBy : ℕ → Class
 classBy n =
     pick (eqb n 0) (One Comment)
@@ -58,22 +59,6 @@ classBy n =
     (pick (eqb n 10) (Closes EndLoop)
     (pick (eqb n 11) (Closes EndRep) (Closes End))))))))))))
 
-abbrev pub reasonBy : ℕ → Reason
-reasonBy n =
-    pick (eqb n 1) LENGTH
-    (pick (eqb n 2) VERSION
-    (pick (eqb n 3) OPCODE
-    (pick (eqb n 4) BITS
-    (pick (eqb n 5) RUN-OUT
-    (pick (eqb n 6) SIZE
-    (pick (eqb n 7) OPERAND
-    (pick (eqb n 8) REGISTER
-    (pick (eqb n 9) BLOCK
-    (pick (eqb n 10) DEPTH
-    (pick (eqb n 11) TAIL
-    (pick (eqb n 12) PLACE
-    (pick (eqb n 13) ROOM RECORD))))))))))))
-
 unfoldable pub judgedFrom : ℕ → Judged
 judgedFrom n =
-    pick (isRefusal n) (Refused (refusal (reasonBy (n / 2 % 16)) (sizeIn n))) (Good (sizeIn n) (classBy (n / 2 % 16)))
+    pick (isRefusal n) (Refused (refusal (reasonBy (kindIn n)) (sizeIn n))) (Good (sizeIn n) (classBy (kindIn n)))

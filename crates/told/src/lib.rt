@@ -1,7 +1,7 @@
 // What is told of an instruction, one number, made and read back: a yes is even, a refusal odd. No other crate knows what its bits are.
 ghost use mathlib.Core.Path.{_≡_};
-ghost use Rattle.paper.specs.Numbers.{toldInstruction};
-ghost use Rattle.told.specs.Numbered.{yesNumber, faultNumber, isRefusal, sizeIn, isPlain, classBy, reasonBy, judgedFrom};
+ghost use Rattle.paper.specs.Numbers.{numberOf, reasonBy, refusal, toldInstruction};
+ghost use Rattle.told.specs.Numbered.{yesNumber, faultNumber, refusalNumber, isRefusal, sizeIn, kindIn, isPlain, classBy, judgedFrom};
 use paper::Class;
 use paper::Closer;
 use paper::Judged;
@@ -20,6 +20,11 @@ const WHOLE: u64 = HALF * KINDS;
 // The class of a plain instruction, as a yes of any size has it.
 const PLAIN: u64 = HALF;
 
+// The classes of a comment and of END, which no row of the table has.
+pub const COMMENT: u32 = 0;
+
+pub const END: u32 = 12;
+
 // A yes: so many tokens behind the first, and the number of a class.
 pub fn yes(size: u32, class: u32) -> u64
     ensures { λ r. ⌜ r ≡ yesNumber size class ⌝ }
@@ -32,6 +37,13 @@ pub fn refused(number: u32, position: u32) -> u64
     ensures { λ r. ⌜ r ≡ faultNumber number position ⌝ }
 {
     WHOLE * position as u64 + (HALF * number as u64 + 1)
+}
+
+// A refusal of the whole instruction, which stands at its first token.
+pub fn refused_first(reason: Reason) -> u64
+    ensures { λ r. ⌜ r ≡ refusalNumber (refusal reason 0) ⌝ }
+{
+    refused(paper::number_of(reason), 0)
 }
 
 pub fn is_refused(told: u64) -> bool
@@ -52,6 +64,13 @@ pub fn size_of(told: u64) -> usize
     ensures { λ r. ⌜ r ≡ sizeIn told ⌝ }
 {
     (told / WHOLE) as usize
+}
+
+// The number of a yes's class.
+pub fn class_of(told: u64) -> u32
+    ensures { λ r. ⌜ r ≡ kindIn told ⌝ }
+{
+    (told / HALF % KINDS) as u32
 }
 
 fn class_by(number: u64) -> Class
@@ -93,6 +112,13 @@ fn reason_by(number: u64) -> Reason
         13 => Reason::Room,
         _ => Reason::Record,
     }
+}
+
+// The reason of a refusal.
+pub fn reason_of(told: u64) -> Reason
+    ensures { λ r. ⌜ numberOf r ≡ numberOf (reasonBy (kindIn told)) ⌝ }
+{
+    reason_by(told / HALF % KINDS)
 }
 
 // What such a number tells.

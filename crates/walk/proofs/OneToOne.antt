@@ -4,9 +4,9 @@ use mathlib.Core.Bool.{false}
 use lib.Dec.{eqb}
 use borrow.Author.Tests.{ne-eqb}
 use Rattle.paper.specs.Notation.{pick}
-use Rattle.paper.specs.Numbers.{numberOf, refusal}
+use Rattle.paper.specs.Numbers.{numberOf, reasonBy, refusal}
 use Rattle.paper.specs.declared.Reason.{Reason}
-use Rattle.paper.proofs.OneToOne.{reasonFrom, reason-back, no-reason-zero}
+use Rattle.paper.proofs.OneToOne.{reason-back, no-reason-zero}
 use Rattle.walk.specs.declared.Next.{Next}
 use Rattle.walk.specs.declared.Next.the-variants.{Go, Bad, Finish}
 use Rattle.walk.specs.declared.Stepped.{Stepped}
@@ -19,7 +19,7 @@ not-a-yes : (r : Reason) → eqb (numberOf r) 0 ≡ false
 not-a-yes r = ne-eqb (numberOf r) 0 (λ e. no-reason-zero r (sym e))
 
 nextFrom : ToldNext → Next
-nextFrom t = pick (eqb (t .number) 0) (pick (eqb (t .finished) 0) (Go (t .kinds)) Finish) (Bad (reasonFrom (t .number)))
+nextFrom t = pick (eqb (t .number) 0) (pick (eqb (t .finished) 0) (Go (t .kinds)) Finish) (Bad (reasonBy (t .number)))
 
 next-back : (n : Next) → nextFrom (toldNext n) ≡ n
 unfolding nextFrom toldNext
@@ -33,7 +33,7 @@ same-next a b e = sym (next-back a) ∙ ap nextFrom e ∙ next-back b
 steppedFrom : ToldStepped → Stepped
 steppedFrom t =
     pick (eqb (t .number) 0) (pick (eqb (t .finished) 0) (On (t .state)) (Done (t .state)))
-    (Refused (refusal (reasonFrom (t .number)) (t .position)))
+    (Refused (refusal (reasonBy (t .number)) (t .position)))
 
 stepped-back : (s : Stepped) → steppedFrom (toldStepped s) ≡ s
 unfolding steppedFrom toldStepped

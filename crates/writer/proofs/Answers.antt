@@ -16,7 +16,7 @@ use Rattle.paper.specs.declared.Version.{Version}
 use Rattle.paper.specs.declared.Version.the-variants.{V2, V3, P2, P3}
 use Rattle.paper.specs.declared.Named.the-variants.{Known, Unknown}
 use Rattle.paper.specs.declared.Reason.the-variants.{Room as ROOM, Record as RECORD}
-use Rattle.paper.proofs.Below.{both-left}
+use Rattle.paper.proofs.Bools.{both-left}
 use Rattle.records.specs.declared.Record.{Record}
 use Rattle.record_tokens.specs.Tokens.{commentToken, tokensOf}
 use Rattle.writer.specs.declared.Written.the-variants.{Wrote, Refused}

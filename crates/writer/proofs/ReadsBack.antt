@@ -12,8 +12,8 @@ use Rattle.paper.specs.Notation.{pick}
 use Rattle.paper.specs.Versions.{versionToken}
 use Rattle.paper.specs.InstructionToken.{commentOpcode}
 use Rattle.paper.specs.declared.Version.{Version}
-use Rattle.paper.proofs.Below.{both-left, both-right}
-use Rattle.cutting.proofs.OwnTokens.{good-within}
+use Rattle.paper.proofs.Bools.{both-left, both-right}
+use Rattle.paper.proofs.OwnTokens.{good-within}
 use Rattle.records.specs.declared.Record.{Record}
 use Rattle.records.specs.Record.{commentRecord, recordOf}
 use Rattle.reader.specs.Reading.{got, reading}

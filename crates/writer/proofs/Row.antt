@@ -10,7 +10,7 @@ use lib.Seq.{drop-drop, getD-drop}
 use borrow.Author.Tests.{eq-eqb, ne-eqb}
 use borrow.Rule.Slice.PartMut.{putMid}
 use Rattle.paper.specs.Notation.{pick}
-use Rattle.paper.proofs.Below.{both-left, both-right}
+use Rattle.paper.proofs.Bools.{both-left, both-right}
 use Rattle.paper.specs.Places.{Place, predicate, isRaw, isPredicate}
 use Rattle.paper.specs.InstructionToken.{withPredicate}
 use Rattle.places.specs.Places.{placeBy, decoded}

@@ -18,11 +18,11 @@ use Rattle.paper.specs.declared.Class.the-variants.{One}
 use Rattle.paper.specs.declared.Single.the-variants.{Comment}
 use Rattle.paper.specs.declared.Judged.the-variants.{Good as Lawful}
 use Rattle.paper.specs.declared.Verdict.the-variants.{Accepted}
-use Rattle.paper.proofs.Below.{both-right}
+use Rattle.paper.proofs.Bools.{both-right}
 use Rattle.paper.proofs.VersionTokens.{named-back}
 use Rattle.cutting.specs.Cuttings.{joined, Alone, Chunks, last, next, Cutting}
 use Rattle.cutting.proofs.AcceptedIsACutting.{accepted-is-a-cutting}
-use Rattle.cutting.proofs.OwnTokens.{within-good}
+use Rattle.paper.proofs.OwnTokens.{within-good}
 use Rattle.records.specs.Record.{recordOn, recordOf}
 use Rattle.records.proofs.Heads.{is-comment, is-dcl, is-operation}
 use Rattle.record_tokens.specs.Tokens.{Words, tokensOf, bodyOn, commentBody}

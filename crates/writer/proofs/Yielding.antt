@@ -19,8 +19,8 @@ use Rattle.paper.specs.declared.Class.{Class}
 use Rattle.paper.specs.declared.Class.the-variants.{One}
 use Rattle.paper.specs.declared.Single.the-variants.{Comment}
 use Rattle.paper.specs.declared.Judged.the-variants.{Good as Lawful}
-use Rattle.paper.proofs.Below.{both-left, both-right}
-use Rattle.cutting.proofs.OwnTokens.{within-good}
+use Rattle.paper.proofs.Bools.{both-left, both-right}
+use Rattle.paper.proofs.OwnTokens.{within-good}
 use Rattle.records.specs.declared.Record.{Record}
 use Rattle.records.specs.Record.{commentRecord, recordOn, recordOf}
 use Rattle.records.proofs.Heads.{is-comment, is-dcl, is-operation}

@@ -3,7 +3,7 @@ use mathlib.Core.Path.{ap, sym, _∙_}
 use native.Mathlib.Omega.{arith}
 use Rattle.paper.specs.Numbers.{told}
 use Rattle.paper.proofs.OneToOne.{same-named}
-use Rattle.checker.proofs.Whole.{laid-two, verdict-length, verdict-version, verdict-walked}
+use Rattle.paper.proofs.StreamVerdict.{laid-two, verdict-length, verdict-version, verdict-walked}
 use borrow.Author.Needs.{needs}
 use Rattle.checker.proofs.check.Statement.{statement}
 use Rattle.checker.proofs.check.Tie as tie

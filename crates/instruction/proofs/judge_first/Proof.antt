@@ -1,14 +1,21 @@
-use mathlib.Core.Path.{refl, sym, ap, _∙_}
+use mathlib.Core.Path.{_≡_, sym, ap, _∙_}
 use Prim.Native.Nat.{_+_, _-_}
 use native.Mathlib.Omega.{arith}
 use lib.ListN.{length}
 use lib.Seq.{take-all}
-use Rattle.paper.proofs.LowBits.{opcode-low}
+use Rattle.paper.specs.InstructionToken.{opcodeOf}
 use Rattle.opcodes.specs.Shape.{shapeOf}
-use Rattle.instruction.proofs.Judging.{judged-unlisted, judged-bits, class-in, judged-listed}
+use Rattle.instruction.proofs.Judging.{judged-unlisted, judged-shaped, class-in}
 use borrow.Author.Needs.{needs}
 use Rattle.instruction.proofs.judge_first.Statement.{statement}
 use Rattle.instruction.proofs.judge_first.Tie as tie
+
+-- the shape is that of the token's opcode
+shape : (a : tie.After-shape-of) → a .shape-of .result ≡ shapeOf (a .before .before .before .args .version) (opcodeOf (a .before .before .before .args .first))
+shape a = a .shape-of .ensures ∙ ap (shapeOf (a .before .before .before .args .version)) (a .before .opcode-of .ensures)
+
+opcode-of-requires : tie.Need-opcode-of-requires
+opcode-of-requires c κs = search needs
 
 shape-of-requires : tie.Need-shape-of-requires
 shape-of-requires c κs = search needs
@@ -18,9 +25,9 @@ judge-unlisted-requires c κs = search needs
 
 returns : tie.Need-returns
 returns c =
-    let g = c .before .before .before .before .args in
-    let shape = c .before .before .shape-of .ensures ∙ ap (shapeOf (g .version)) (opcode-low (g .first)) in
-    rw (judged-unlisted (g .version) (g .first) (g .behind .now) (length (g .behind .now) + g .beyond) (sym shape ∙ c .before .if1 .taken)) (c .judge-unlisted .ensures)
+    let g = c .before .before .before .before .before .args in
+    rw (judged-unlisted (g .version) (g .first) (g .behind .now) (length (g .behind .now) + g .beyond) (sym (shape (c .before .before)) ∙ c .before .if1 .taken))
+    (c .judge-unlisted .ensures)
 
 bits-laid-requires : tie.Need-bits-laid-requires
 bits-laid-requires c κs = search needs
@@ -36,32 +43,40 @@ part-judge-listed-end c = search needs
 
 judge-listed-requires : tie.Need-judge-listed-requires
 judge-listed-requires c κs =
-    let g = c .before .before .before .before .before .before .args in
-    let shape = c .before .before .before .before .shape-of .ensures ∙ ap (shapeOf (g .version)) (opcode-low (g .first)) in
-    rw shape (class-in (g .version) (g .first) (λ z. c .before .before .before .if1 .left (shape ∙ z)))
+    let d = c .before .before .before .before in
+    let g = d .before .before .before .args in
+    rw (shape d) (class-in (g .version) (g .first) (g .behind .now) (length (g .behind .now) + g .beyond) (λ z. c .before .before .before .if1 .left (shape d ∙ z)))
 
 returns-2 : tie.Need-returns-2
 returns-2 c =
-    let g = c .before .before .before .before .before .before .before .args in
-    let shape = c .before .before .before .before .before .shape-of .ensures ∙ ap (shapeOf (g .version)) (opcode-low (g .first)) in
+    let d = c .before .before .before .before .before in
+    let g = d .before .before .before .args in
     rw (
-      judged-listed (g .version) (g .first) (λ z. c .before .before .before .before .if1 .left (shape ∙ z)) (g .behind .now) (length (g .behind .now) + g .beyond)
-          (rw shape at (sym (c .before .before .before .bits-laid .ensures) ∙ c .before .before .if2 .taken)),
-      ← shape,
+      judged-shaped (g .version) (g .first) (g .behind .now) (length (g .behind .now) + g .beyond) (λ z. c .before .before .before .before .if1 .left (shape d ∙ z)),
+      ← (shape d),
+      sym (c .before .before .before .bits-laid .ensures) ∙ c .before .before .if2 .taken,
     )
     (rw (take-all (length (g .behind .now) - 0) (g .behind .now) (omega arith)) at (c .judge-listed .ensures))
 
+refused-first-requires : tie.Need-refused-first-requires
+refused-first-requires c κs = search needs
+
 returns-3 : tie.Need-returns-3
 returns-3 c =
-    let g = c .before .before .before .before .before .args in
-    let shape = c .before .before .before .shape-of .ensures ∙ ap (shapeOf (g .version)) (opcode-low (g .first)) in
-    rw (judged-bits (g .version) (g .first) (λ z. c .before .before .if1 .left (shape ∙ z)) (g .behind .now) (length (g .behind .now) + g .beyond)
-    (rw shape at (sym (c .before .bits-laid .ensures) ∙ c .if2 .left))) refl
+    let d = c .before .before .before .before in
+    let g = d .before .before .before .args in
+    rw (
+      judged-shaped (g .version) (g .first) (g .behind .now) (length (g .behind .now) + g .beyond) (λ z. c .before .before .before .if1 .left (shape d ∙ z)),
+      ← (shape d),
+      sym (c .before .before .bits-laid .ensures) ∙ c .before .if2 .left,
+    )
+    (c .refused-first .ensures)
 
 pub judge-first-spec : {M : Type 1} → statement M
 judge-first-spec =
     tie.close
     (tie.spec
+    opcode-of-requires
     shape-of-requires
     judge-unlisted-requires
     returns
@@ -71,4 +86,5 @@ judge-first-spec =
     part-judge-listed-end
     judge-listed-requires
     returns-2
+    refused-first-requires
     returns-3)

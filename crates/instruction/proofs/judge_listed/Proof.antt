@@ -1,63 +1,70 @@
-use mathlib.Core.Path.{refl, sym}
+use mathlib.Core.Path.{sym, ap, _∙_}
 use lib.ListN.{length, take}
 use lib.Seq.{length-take-le}
 use borrow.Author.Tests.{lt-leb, le-leb}
 use Rattle.paper.specs.InstructionToken.{opcodeOf, statedSize}
+use Rattle.paper.specs.Instruction.{operandsOf}
 use Rattle.paper.specs.Blocks.{classOf}
-use Rattle.instruction.specs.Claimed.{operandsBy}
+use Rattle.told.specs.Numbered.{yesNumber}
+use Rattle.instruction.specs.Shown.{placesIn}
 use Rattle.instruction.proofs.Numbers.{operands-number, operands-refused-number}
 use borrow.Author.Needs.{needs}
 use Rattle.instruction.proofs.judge_listed.Statement.{statement}
 use Rattle.instruction.proofs.judge_listed.Tie as tie
 
+claim-of-requires : tie.Need-claim-of-requires
+claim-of-requires c κs = search needs
+
 cast-size : tie.Need-cast-size
 cast-size c = search needs
 
+refused-first-requires : tie.Need-refused-first-requires
+refused-first-requires c κs = search needs
+
 returns : tie.Need-returns
-returns c = rw (lt-leb _ _ (c .if1 .taken)) refl
+returns c = rw (lt-leb _ _ (rw (c .before .before .claim-of .ensures) at (c .before .if1 .taken))) (c .refused-first .ensures)
 
 slice-aggregate-judge-claimed : tie.Need-slice-aggregate-judge-claimed
 slice-aggregate-judge-claimed c =
-    let g = c .before .before .before .args in
-    let size = statedSize (g .first) in
-    sym (length-take-le size (g .behind .now) (c .before .if1 .left))
+    let g = c .before .before .before .before .args in
+    sym (length-take-le _ (g .behind .now) (c .before .if1 .left))
 
 judge-claimed-requires : tie.Need-judge-claimed-requires
 judge-claimed-requires c κs = search needs
 
-mul-result : tie.Need-mul-result
-mul-result c = search needs
+cast-yes : tie.Need-cast-yes
+cast-yes c = search needs
 
-mul-result-2 : tie.Need-mul-result-2
-mul-result-2 c = search needs
-
-add-result : tie.Need-add-result
-add-result c = search needs
+yes-requires : tie.Need-yes-requires
+yes-requires c κs = search needs
 
 returns-2 : tie.Need-returns-2
 returns-2 c =
-    let g = c .before .before .before .before .before .args in
-    let size = statedSize (g .first) in
-    rw (le-leb size (length (g .behind .now)) (c .before .before .before .if1 .left), c .before .before .before .before .before .pre)
-    (sym (operands-number (operandsBy (g .version) (g .shape) (g .first) (take size (g .behind .now))) _ size (classOf (opcodeOf (g .first))) (c .before .judge-claimed .ensures) (c .if2 .taken)))
+    let g = c .before .before .before .before .before .before .before .args in
+    let claim = c .before .before .before .before .before .claim-of in
+    rw (← (claim .ensures), le-leb _ _ (c .before .before .before .before .if1 .left))
+    (c .yes .ensures
+    ∙ ap (yesNumber (claim .result)) (c .before .before .before .before .before .before .before .pre)
+    ∙ sym (operands-number (operandsOf (g .version) (opcodeOf (g .first)) (placesIn (g .shape) (g .first)) (take (claim .result) (g .behind .now))) _ _ (classOf (opcodeOf (g .first))) (c .before .before .judge-claimed .ensures) (c .before .if2 .taken)))
 
 returns-3 : tie.Need-returns-3
 returns-3 c =
-    let g = c .before .before .before .before .before .args in
-    let size = statedSize (g .first) in
-    rw (le-leb size (length (g .behind .now)) (c .before .before .before .if1 .left))
-    (sym (operands-refused-number (operandsBy (g .version) (g .shape) (g .first) (take size (g .behind .now))) _ size (classOf (opcodeOf (g .first))) (c .before .judge-claimed .ensures) (c .if2 .left)))
+    let g = c .before .before .before .before .before .before .args in
+    let claim = c .before .before .before .before .claim-of in
+    rw (← (claim .ensures), le-leb _ _ (c .before .before .before .if1 .left))
+    (sym (operands-refused-number (operandsOf (g .version) (opcodeOf (g .first)) (placesIn (g .shape) (g .first)) (take (claim .result) (g .behind .now))) _ _ (classOf (opcodeOf (g .first))) (c .before .judge-claimed .ensures) (c .if2 .left)))
 
 pub judge-listed-spec : {M : Type 1} → statement M
 judge-listed-spec =
     tie.close
     (tie.spec
+    claim-of-requires
     cast-size
+    refused-first-requires
     returns
     slice-aggregate-judge-claimed
     judge-claimed-requires
-    mul-result
-    mul-result-2
-    add-result
+    cast-yes
+    yes-requires
     returns-2
     returns-3)

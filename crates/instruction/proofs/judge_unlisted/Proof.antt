@@ -1,48 +1,124 @@
-use native.Mathlib.Nat.{div-one}
 use mathlib.Core.Path.{sym, _∙_}
-use native.Mathlib.Omega.{arith}
 use borrow.Author.Tests.{eq-eqb, ne-eqb}
 use Rattle.instruction.specs.Shown.{unlistedIn}
 use borrow.Author.Needs.{needs}
 use Rattle.instruction.proofs.judge_unlisted.Statement.{statement}
 use Rattle.instruction.proofs.judge_unlisted.Tie as tie
 
-cast-length : tie.Need-cast-length
-cast-length c = search needs
+opcode-of-requires : tie.Need-opcode-of-requires
+opcode-of-requires c κs = search needs
+
+comment-laid-requires : tie.Need-comment-laid-requires
+comment-laid-requires c κs = search needs
+
+comment-length-requires : tie.Need-comment-length-requires
+comment-length-requires c κs = search needs
+
+cast-are-there : tie.Need-cast-are-there
+cast-are-there c = search needs
 
 are-there-requires : tie.Need-are-there-requires
 are-there-requires c κs = search needs
 
-mul-result : tie.Need-mul-result
-mul-result c = search needs
+yes-requires : tie.Need-yes-requires
+yes-requires c κs = search needs
 
 returns : tie.Need-returns
 unfolding unlistedIn
 returns c =
-    simp (div-one, eq-eqb _ _ (c .before .before .before .if1 .taken), eq-eqb _ _ (c .before .before .if2 .taken), sym (c .before .are-there .ensures) ∙ c .if3 .taken) (omega arith)
+    let d = c .before .before .before .before .before in
+    rw (
+      eq-eqb _ _ (sym (d .before .before .opcode-of .ensures) ∙ d .before .if1 .taken),
+      sym (d .comment-laid .ensures) ∙ c .before .before .before .before .if2 .taken,
+      ← (c .before .before .before .comment-length .ensures),
+      sym (c .before .before .are-there .ensures) ∙ c .before .if3 .taken,
+    )
+    (c .yes .ensures)
+
+refused-first-requires : tie.Need-refused-first-requires
+refused-first-requires c κs = search needs
 
 returns-2 : tie.Need-returns-2
 unfolding unlistedIn
 returns-2 c =
-    simp (div-one, eq-eqb _ _ (c .before .before .before .if1 .taken), eq-eqb _ _ (c .before .before .if2 .taken), sym (c .before .are-there .ensures) ∙ c .if3 .left)
+    let d = c .before .before .before .before .before in
+    rw (
+      eq-eqb _ _ (sym (d .before .before .opcode-of .ensures) ∙ d .before .if1 .taken),
+      sym (d .comment-laid .ensures) ∙ c .before .before .before .before .if2 .taken,
+      ← (c .before .before .before .comment-length .ensures),
+      sym (c .before .before .are-there .ensures) ∙ c .before .if3 .left,
+    )
+    (c .refused-first .ensures)
+
+refused-first-requires-2 : tie.Need-refused-first-requires-2
+refused-first-requires-2 c κs = search needs
 
 returns-3 : tie.Need-returns-3
 unfolding unlistedIn
-returns-3 c = simp (div-one, eq-eqb _ _ (c .before .if1 .taken), ne-eqb _ _ (c .if2 .left))
+returns-3 c =
+    let d = c .before .before in
+    rw (
+      eq-eqb _ _ (sym (d .before .before .opcode-of .ensures) ∙ d .before .if1 .taken),
+      sym (d .comment-laid .ensures) ∙ c .before .if2 .left,
+    )
+    (c .refused-first2 .ensures)
+
+yes-requires-2 : tie.Need-yes-requires-2
+yes-requires-2 c κs = search needs
 
 returns-4 : tie.Need-returns-4
 unfolding unlistedIn
-returns-4 c = simp (div-one, ne-eqb _ _ (c .before .before .if1 .left), eq-eqb _ _ (c .before .if4 .taken), eq-eqb _ _ (c .if5 .taken))
+returns-4 c =
+    let o = c .before .before .before .before .opcode-of in
+    rw (
+      ne-eqb _ _ (λ e. c .before .before .before .if1 .left (o .ensures ∙ e)),
+      eq-eqb _ _ (sym (o .ensures) ∙ c .before .before .if4 .taken),
+      eq-eqb _ _ (c .before .if5 .taken),
+    )
+    (c .yes2 .ensures)
+
+refused-first-requires-3 : tie.Need-refused-first-requires-3
+refused-first-requires-3 c κs = search needs
 
 returns-5 : tie.Need-returns-5
 unfolding unlistedIn
-returns-5 c = simp (div-one, ne-eqb _ _ (c .before .before .if1 .left), eq-eqb _ _ (c .before .if4 .taken), ne-eqb _ _ (c .if5 .left))
+returns-5 c =
+    let o = c .before .before .before .before .opcode-of in
+    rw (
+      ne-eqb _ _ (λ e. c .before .before .before .if1 .left (o .ensures ∙ e)),
+      eq-eqb _ _ (sym (o .ensures) ∙ c .before .before .if4 .taken),
+      ne-eqb _ _ (c .before .if5 .left),
+    )
+    (c .refused-first3 .ensures)
+
+refused-first-requires-4 : tie.Need-refused-first-requires-4
+refused-first-requires-4 c κs = search needs
 
 returns-6 : tie.Need-returns-6
 unfolding unlistedIn
-returns-6 c = simp (div-one, ne-eqb _ _ (c .before .if1 .left), ne-eqb _ _ (c .if4 .left))
+returns-6 c =
+    let o = c .before .before .before .opcode-of in
+    rw (ne-eqb _ _ (λ e. c .before .before .if1 .left (o .ensures ∙ e)), ne-eqb _ _ (λ e. c .before .if4 .left (o .ensures ∙ e)))
+    (c .refused-first4 .ensures)
 
 pub judge-unlisted-spec : {M : Type 1} → statement M
 judge-unlisted-spec =
     tie.close
-    (tie.spec cast-length are-there-requires mul-result returns returns-2 returns-3 returns-4 returns-5 returns-6)
+    (tie.spec
+    opcode-of-requires
+    comment-laid-requires
+    comment-length-requires
+    cast-are-there
+    are-there-requires
+    yes-requires
+    returns
+    refused-first-requires
+    returns-2
+    refused-first-requires-2
+    returns-3
+    yes-requires-2
+    returns-4
+    refused-first-requires-3
+    returns-5
+    refused-first-requires-4
+    returns-6)

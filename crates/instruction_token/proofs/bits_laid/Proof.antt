@@ -1,6 +1,6 @@
 use mathlib.Core.Path.{sym, _∙_}
-use Rattle.instruction_token.specs.Encoded.{bitsBy}
-use Rattle.instruction_token.proofs.Heads.{zeros-laid}
+use Rattle.instruction_token.specs.ByShape.{bitsBy}
+use Rattle.instruction_token.proofs.ByShape.{zeros-laid}
 use borrow.Author.Needs.{needs}
 use Rattle.instruction_token.proofs.bits_laid.Statement.{statement}
 use Rattle.instruction_token.proofs.bits_laid.Tie as tie

@@ -3,8 +3,8 @@ use native.Mathlib.Nat.{mod-lt}
 use native.Mathlib.Omega.{arith}
 use lib.Dec.{lit<}
 use borrow.Author.Tests.{eq-eqb, ne-eqb}
-use Rattle.instruction_token.specs.Encoded.{placesBy}
-use Rattle.instruction_token.proofs.Heads.{predicate-small, predicate-fits}
+use Rattle.instruction_token.specs.ByShape.{placesBy}
+use Rattle.instruction_token.proofs.ByShape.{predicate-small, predicate-fits}
 use borrow.Author.Needs.{needs}
 use Rattle.instruction_token.proofs.places_of.Statement.{statement}
 use Rattle.instruction_token.proofs.places_of.Tie as tie

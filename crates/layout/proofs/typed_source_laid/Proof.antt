@@ -6,7 +6,7 @@ use borrow.Author.Tests.{eqb-true}
 use Rattle.paper.specs.Notation.{bit}
 use Rattle.paper.specs.Places.{condition}
 use Rattle.paper.specs.OperandTokens.{modifierOf, bothLaid}
-use Rattle.paper.proofs.Below.{both-left, both-right}
+use Rattle.paper.proofs.Bools.{both-left, both-right}
 use Rattle.layout.proofs.Layouts.{unfree-order}
 use Rattle.layout.proofs.typed_source_laid.Statement.{statement}
 use Rattle.layout.proofs.typed_source_laid.Tie as tie

@@ -5,7 +5,7 @@ use native.Mathlib.Omega.{arith}
 use borrow.Author.Needs.{needs}
 use Rattle.places.specs.Places.{decoded}
 use Rattle.records.specs.Record.{arrayOf}
-use Rattle.records.specs.Encoded.{widthOf, ordered}
+use Rattle.records.specs.ByClass.{widthOf, ordered}
 use Rattle.records.proofs.Filled.{filled, filled-array, filled-none, filled-on, width-first, slot-fits, held-few, held-on}
 use Rattle.records.proofs.read_operands.Statement.{statement}
 use Rattle.records.proofs.read_operands.Tie as tie

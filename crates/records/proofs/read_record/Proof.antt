@@ -1,69 +1,64 @@
-use Rattle.records.proofs.Filled.{declared-places}
+use mathlib.Core.Path.{_≡_, ap, _∙_}
 use borrow.Author.Needs.{needs}
+use borrow.Author.Tests.{eq-eqb, ne-eqb}
+use Rattle.paper.specs.InstructionToken.{opcodeOf}
+use Rattle.opcodes.specs.Shape.{shapeOf}
+use Rattle.instruction_token.specs.ByShape.{placesBy}
 use Rattle.records.proofs.read_record.Statement.{statement}
 use Rattle.records.proofs.read_record.Tie as tie
 
-enum-told : tie.Need-enum-told
-enum-told c = search needs
+-- the row of places is that of the opcode's shape
+row : (a : tie.After-places-of) → a .places-of .result ≡ placesBy (shapeOf (a .before .before .before .before .before .before .args .version) (opcodeOf (a .before .before .before .before .before .before .args .first))) (a .before .before .before .before .before .before .args .first)
+row a =
+    let g = a .before .before .before .before .before .before .args in
+    a .places-of .ensures
+    ∙ ap (λ s. placesBy s (g .first)) (a .before .shape-of .ensures ∙ ap (shapeOf (g .version)) (a .before .before .opcode-of .ensures))
+
+comment-length-requires : tie.Need-comment-length-requires
+comment-length-requires c κs = search needs
 
 empty-record-requires : tie.Need-empty-record-requires
 empty-record-requires c κs = search needs
 
-enum-told-2 : tie.Need-enum-told-2
-enum-told-2 c = search needs
+returns : tie.Need-returns
+returns c = rw (eq-eqb _ _ (c .before .before .if1 .taken), ← (c .before .comment-length .ensures)) (c .empty-record .ensures)
 
 empty-record-requires-2 : tie.Need-empty-record-requires-2
 empty-record-requires-2 c κs = search needs
 
-enum-told-3 : tie.Need-enum-told-3
-enum-told-3 c = search needs
+returns-2 : tie.Need-returns-2
+returns-2 c = rw (ne-eqb _ _ (c .before .before .if1 .left), eq-eqb _ _ (c .before .if2 .taken)) (c .empty-record2 .ensures)
 
-empty-record-requires-3 : tie.Need-empty-record-requires-3
-empty-record-requires-3 c κs = search needs
+opcode-of-requires : tie.Need-opcode-of-requires
+opcode-of-requires c κs = search needs
 
-enum-told-4 : tie.Need-enum-told-4
-enum-told-4 c = search needs
+shape-of-requires : tie.Need-shape-of-requires
+shape-of-requires c κs = search needs
+
+places-of-requires : tie.Need-places-of-requires
+places-of-requires c κs = search needs
 
 instruction-record-requires : tie.Need-instruction-record-requires
-instruction-record-requires c κs = rw declared-places (rw (c .enum-told4 .given .1) at (c .before .before .before .pre))
-
-enum-known-head : tie.Need-enum-known-head
-enum-known-head c = search needs
-
-instruction-record-requires-2 : tie.Need-instruction-record-requires-2
-instruction-record-requires-2 c κs = rw (c .before .head .given .1) at (c .before .before .before .before .pre)
-
-returns : tie.Need-returns
-returns c = rw (c .before .enum-told .given .1) (c .empty-record .ensures)
-
-returns-2 : tie.Need-returns-2
-returns-2 c = rw (c .before .enum-told2 .given .1) (c .empty-record2 .ensures)
+instruction-record-requires c κs =
+    let d = c .before .before .before in
+    rw (row c) (rw (ne-eqb _ _ (d .before .if1 .left), ne-eqb _ _ (d .if2 .left)) at (d .before .before .before .pre))
 
 returns-3 : tie.Need-returns-3
-returns-3 c = rw (c .before .enum-told3 .given .1) (c .empty-record3 .ensures)
-
-returns-4 : tie.Need-returns-4
-returns-4 c = rw (c .before .enum-told4 .given .1) (rw declared-places at (c .instruction-record .ensures))
-
-returns-5 : tie.Need-returns-5
-returns-5 c = rw (c .before .before .head .given .1) (c .instruction-record2 .ensures)
+returns-3 c =
+    let d = c .before .before .before .before in
+    rw (ne-eqb _ _ (d .before .if1 .left), ne-eqb _ _ (d .if2 .left), ← (row (c .before))) (c .instruction-record .ensures)
 
 pub read-record-spec : {M : Type 1} → statement M
 read-record-spec =
     tie.close
     (tie.spec
-    enum-told
+    comment-length-requires
     empty-record-requires
-    enum-told-2
-    empty-record-requires-2
-    enum-told-3
-    empty-record-requires-3
-    enum-told-4
-    instruction-record-requires
-    enum-known-head
-    instruction-record-requires-2
     returns
+    empty-record-requires-2
     returns-2
-    returns-3
-    returns-4
-    returns-5)
+    opcode-of-requires
+    shape-of-requires
+    places-of-requires
+    instruction-record-requires
+    returns-3)

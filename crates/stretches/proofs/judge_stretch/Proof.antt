@@ -1,8 +1,10 @@
-use mathlib.Core.Path.{refl, sym}
-use Prim.Native.Nat.{_-_, _≤_}
+use mathlib.Core.Path.{_≡_, refl, sym, _∙_}
+use mathlib.Core.Bool.{true, false}
+use Prim.Native.Nat.{ℕ, _+_, _-_, _≤_, _<_}
 use native.Mathlib.Omega.{arith}
 use lib.ListN.{length}
-use Rattle.stretches.specs.Stretch.{PlainTo, here}
+use Rattle.paper.proofs.Bools.{not-true, not-false}
+use Rattle.stretches.specs.Stretch.{nextAt, PlainTo, here}
 use Rattle.stretches.proofs.Stretches.{told-none, turn-inside, turn-on, turn-last, turn-stop}
 use borrow.Author.Needs.{needs}
 use Rattle.stretches.proofs.judge_stretch.Statement.{statement}
@@ -13,6 +15,30 @@ Inv-loop version tokens from stop beyond at₀ count₀ at count = PlainTo versi
 
 abbrev μ-loop : tie.MeasureT-loop
 μ-loop version tokens from stop beyond at₀ count₀ at count = length tokens - at
+
+-- the turn at an instruction that is told of
+abbrev at-loop : tie.After-is-plain Inv-loop μ-loop → tie.At-loop Inv-loop μ-loop
+at-loop a = a .before .before .before .before .before
+
+abbrev start : tie.After-is-plain Inv-loop μ-loop → tie.Start Inv-loop μ-loop
+start a = at-loop a .before .before
+
+module _ (a : tie.After-is-plain Inv-loop μ-loop) where
+  abbrev told : ℕ
+  told = a .before .judge-first .result
+
+  inside : a .is-plain .result ≡ true → nextAt (at-loop a .loop .at) told ≤ length (start a .args .tokens .now)
+  inside p =
+      let g = start a .args in
+      let l = at-loop a .loop in
+      turn-inside (g .version) (g .tokens .now) (g .beyond) (g .stop) (g .from) (l .at) (l .count) told (l .inv .0) (a .before .before .before .before .loop-test .taken) (a .before .judge-first .ensures) (sym (a .is-plain .ensures) ∙ p)
+
+  on : a .is-plain .result ≡ true → nextAt (at-loop a .loop .at) told < start a .args .stop →
+      PlainTo (start a .args .version) (start a .args .tokens .now) (start a .args .beyond) (start a .args .stop) (start a .args .from) (nextAt (at-loop a .loop .at) told) (at-loop a .loop .count + 1)
+  on p =
+      let g = start a .args in
+      let l = at-loop a .loop in
+      turn-on (g .version) (g .tokens .now) (g .beyond) (g .stop) (g .from) (l .at) (l .count) told (l .inv .0) (a .before .before .before .before .loop-test .taken) (a .before .judge-first .ensures) (sym (a .is-plain .ensures) ∙ p)
 
 loop-holds : tie.Need-loop-holds Inv-loop μ-loop
 loop-holds c = (here, omega arith)
@@ -41,62 +67,61 @@ part-judge-first-end c = search needs
 judge-first-requires : tie.Need-judge-first-requires Inv-loop μ-loop
 judge-first-requires c κs = search needs
 
+is-plain-requires : tie.Need-is-plain-requires Inv-loop μ-loop
+is-plain-requires c κs = search needs
+
 returns : tie.Need-returns Inv-loop μ-loop
 returns c =
-    let j = c .before .judge-first in
-    let t = c .before .before .before .before .loop-test in
-    let l = c .before .before .before .before .before .loop in
-    let g = c .before .before .before .before .before .before .before .args in
-    turn-last (g .version) (g .tokens .now) (g .beyond) (g .stop) (g .from) (l .at) (l .count) (j .result) (l .inv .0) (t .taken) (j .ensures) (c .if1 .taken)
+    let a = c .before in
+    let g = start a .args in
+    let l = at-loop a .loop in
+    turn-last (g .version) (g .tokens .now) (g .beyond) (g .stop) (g .from) (l .at) (l .count) (told a) (l .inv .0) (a .before .before .before .before .loop-test .taken) (a .before .judge-first .ensures) (sym (a .is-plain .ensures) ∙ not-true _ (c .if1 .taken))
 
 add-next : tie.Need-add-next Inv-loop μ-loop
 add-next c = search needs
 
+size-of-requires : tie.Need-size-of-requires Inv-loop μ-loop
+size-of-requires c κs = search needs
+
 add-next-2 : tie.Need-add-next-2 Inv-loop μ-loop
-add-next-2 c =
-    let j = c .before .judge-first in
-    let t = c .before .before .before .before .loop-test in
-    let l = c .before .before .before .before .before .loop in
-    let g = c .before .before .before .before .before .before .before .args in
-    omega (arith, turn-inside (g .version) (g .tokens .now) (g .beyond) (g .stop) (g .from) (l .at) (l .count) (j .result) (l .inv .0) (t .taken) (j .ensures) (c .if1 .left))
+add-next-2 c = omega (arith, c .size-of .ensures, inside (c .before .before) (not-false _ (c .before .if1 .left)))
 
 returns-2 : tie.Need-returns-2 Inv-loop μ-loop
 returns-2 c =
-    let j = c .before .before .judge-first in
-    let t = c .before .before .before .before .before .loop-test in
-    let l = c .before .before .before .before .before .before .loop in
-    let g = c .before .before .before .before .before .before .before .before .args in
-    turn-stop (g .version) (g .tokens .now) (g .beyond) (g .stop) (g .from) (l .at) (l .count) (j .result) (l .inv .0) (t .taken) (j .ensures) (c .before .if1 .left) (c .if2 .taken)
+    let a = c .before .before .before in
+    let g = start a .args in
+    let l = at-loop a .loop in
+    turn-stop (g .version) (g .tokens .now) (g .beyond) (g .stop) (g .from) (l .at) (l .count) (told a) (l .inv .0) (a .before .before .before .before .loop-test .taken) (a .before .judge-first .ensures) (sym (a .is-plain .ensures) ∙ not-false _ (c .before .before .if1 .left)) (rw (c .before .size-of .ensures) at (c .if2 .taken))
 
 add-count : tie.Need-add-count Inv-loop μ-loop
-add-count c =
-    let j = c .before .before .judge-first in
-    let t = c .before .before .before .before .before .loop-test in
-    let l = c .before .before .before .before .before .before .loop in
-    let g = c .before .before .before .before .before .before .before .before .args in
-    omega (arith, l .inv .1, t .taken)
+add-count c = omega (arith, at-loop (c .before .before .before) .loop .inv .1, c .before .before .before .before .before .before .before .loop-test .taken)
 
 loop-less : tie.Need-loop-less Inv-loop μ-loop
 loop-less c =
-    let j = c .before .before .judge-first in
-    let t = c .before .before .before .before .before .loop-test in
-    let l = c .before .before .before .before .before .before .loop in
-    let g = c .before .before .before .before .before .before .before .before .args in
-    omega (arith, turn-inside (g .version) (g .tokens .now) (g .beyond) (g .stop) (g .from) (l .at) (l .count) (j .result) (l .inv .0) (t .taken) (j .ensures) (c .before .if1 .left), t .taken)
+    omega (
+      arith,
+      c .before .size-of .ensures,
+      inside (c .before .before .before) (not-false _ (c .before .before .if1 .left)),
+      c .before .before .before .before .before .before .before .loop-test .taken,
+    )
 
 loop-again : tie.Need-loop-again Inv-loop μ-loop
 loop-again c =
-    let j = c .before .before .judge-first in
-    let t = c .before .before .before .before .before .loop-test in
-    let l = c .before .before .before .before .before .before .loop in
-    let g = c .before .before .before .before .before .before .before .before .args in
-    (turn-on (g .version) (g .tokens .now) (g .beyond) (g .stop) (g .from) (l .at) (l .count) (j .result) (l .inv .0) (t .taken) (j .ensures) (c .before .if1 .left) (omega (arith, c .if2 .left)), omega (arith, l .inv .1))
+    let size = c .before .size-of .ensures in
+    (rw size (on (c .before .before .before) (not-false _ (c .before .before .if1 .left)) (omega (arith, size, c .if2 .left))), omega (arith, at-loop (c .before .before .before) .loop .inv .1))
+
+refused-first-requires : tie.Need-refused-first-requires Inv-loop μ-loop
+refused-first-requires c κs = search needs
 
 returns-3 : tie.Need-returns-3 Inv-loop μ-loop
 returns-3 c =
-    let l = c .before .loop in
-    let g = c .before .before .before .args in
-    record { leads = l .inv .0; is = sym (told-none (g .version) (g .tokens .now) (g .beyond) (l .at) (c .loop-test .left)); ends = refl }
+    let l = c .before .before .loop in
+    let g = c .before .before .before .before .args in
+    record {
+      leads = l .inv .0;
+      is = c .refused-first .ensures ∙ sym (told-none (g .version) (g .tokens .now) (g .beyond) (l .at) (c .before .loop-test .left));
+      ends = rw (c .refused-first .ensures) refl;
+    }
 
 pub judge-stretch-spec : {M : Type 1} → statement M
 judge-stretch-spec =
@@ -113,11 +138,14 @@ judge-stretch-spec =
     part-judge-first-start
     part-judge-first-end
     judge-first-requires
+    is-plain-requires
     returns
     add-next
+    size-of-requires
     add-next-2
     returns-2
     add-count
     loop-less
     loop-again
+    refused-first-requires
     returns-3)

@@ -1,0 +1,40 @@
+-- Small laws on Bools, and contradictions.
+use Prim.Native.Nat.{ℕ}
+use mathlib.Core.Path.{_≡_, refl}
+use mathlib.Core.Bool.{Bool, true, false, not, _&&_, _||_}
+use native.Mathlib.Omega.{arith}
+
+-- two answers that differ are not one: `apart (cc)`
+pub apart : {A : Type 0} → _≡_ {A = ℕ} 0 1 → A
+apart e = absurd (omega arith)
+
+pub never : {A : Type 0} → _≡_ {A = Bool} true false → A
+never e = apart (cc)
+
+pub both-left : (a b : Bool) → a && b ≡ true → a ≡ true
+both-left true b t = refl
+both-left false b t = t
+
+pub both-right : (a b : Bool) → a && b ≡ true → b ≡ true
+both-right true b t = t
+both-right false b t = apart (cc)
+
+pub and-true : (a : Bool) → a && true ≡ a
+and-true true = refl
+and-true false = refl
+
+pub and-false : (a : Bool) → a && false ≡ false
+and-false true = refl
+and-false false = refl
+
+pub or-false : (a : Bool) → a || false ≡ a
+or-false true = refl
+or-false false = refl
+
+pub not-true : (a : Bool) → not a ≡ true → a ≡ false
+not-true true t = apart (cc)
+not-true false t = refl
+
+pub not-false : (a : Bool) → not a ≡ false → a ≡ true
+not-false true t = refl
+not-false false t = apart (cc)

@@ -1,0 +1,73 @@
+-- The row of places of an instruction of the table: DCL's, how many operands it has, and that tokens which fit it pass.
+use mathlib.Core.Path.{_≡_, refl, sym, ap, _∙_}
+use mathlib.Core.Bool.{Bool, true, false, _&&_, _||_}
+use mathlib.Core.List.{List, [], _∷_}
+use Prim.Native.Nat.{ℕ, suc, _≤_}
+use native.Mathlib.Omega.{arith}
+use lib.Dec.{eqb}
+use lib.ListN.{length}
+use borrow.Author.Tests.{eqb-true}
+use Rattle.paper.specs.Notation.{pick, bit, bits}
+use Rattle.paper.specs.OpcodeTable.{DCL, rows}
+use Rattle.paper.specs.InstructionToken.{opcodeOf, controlsOf, controlsLaid, hasDestination, isPredicated, bitsLaid, withPredicate}
+use Rattle.paper.specs.Dcl.{declaration}
+use Rattle.paper.specs.Instruction.{operands, operandsOf}
+use Rattle.paper.specs.Versions.{isThird}
+use Rattle.paper.specs.Places.{listed, entryOf, typedPlaces, Place, isPredicate}
+use Rattle.paper.specs.declared.Version.{Version}
+use Rattle.paper.specs.declared.Version.the-variants.{V2, V3, P2, P3}
+use Rattle.paper.specs.declared.Operands.the-variants.{Fit}
+use Rattle.paper.proofs.Bools.{apart}
+use Rattle.opcodes.proofs.Shapes.{few}
+use Rattle.records.specs.ByClass.{ordered}
+use Rattle.records.proofs.Passed.{AllPassed, all-passed}
+use Rattle.records.proofs.Declared.{declaredRow, declared-passed}
+
+-- DCL's row in the table
+declared-entry : (v : Version) → entryOf v DCL ≡ listed declaredRow
+unfolding entryOf rows typedPlaces
+declared-entry V2 = refl
+declared-entry V3 = refl
+declared-entry P2 = refl
+declared-entry P3 = refl
+
+only-zero : (zeros controls unpredicated third has : Bool) →
+    zeros && (controls && (unpredicated || (third && (has && false)))) ≡ true → unpredicated ≡ true
+only-zero true true true third has e = refl
+only-zero true true false true true e = e
+only-zero true true false true false e = e
+only-zero true true false false has e = e
+only-zero true false unpredicated third has e = apart (cc)
+only-zero false controls unpredicated third has e = apart (cc)
+
+-- at most five operands stand in token order
+at-most : (b : Bool) (n m : ℕ) → n ≤ m → pick b n (suc n) ≤ suc m
+at-most true n m h = omega arith
+at-most false n m h = omega arith
+
+ordered-predicated : (predicated : Bool) (row : List Place) → ordered (withPredicate predicated row) ≤ length row
+unfolding ordered
+ordered-predicated true [] = omega arith
+ordered-predicated false [] = omega arith
+ordered-predicated predicated (place ∷ row) = at-most (isPredicate place) _ _ (ordered-predicated predicated row)
+
+module _ (v : Version) (token : ℕ) (places : List Place) (e : entryOf v (opcodeOf token) ≡ listed places) (laid : bitsLaid v token places ≡ true) where
+  dcl-row : opcodeOf token ≡ DCL → withPredicate (isPredicated token) places ≡ declaredRow
+  dcl-row d =
+      let same : listed places ≡ listed declaredRow = sym e ∙ ap (entryOf v) d ∙ declared-entry v in
+      let row : places ≡ declaredRow = cc in
+      let none : bit 28 token ≡ 0 = eqb-true _ _ (only-zero (eqb (bits 31 29 token) 0) (controlsLaid DCL (controlsOf token)) (eqb (bit 28 token) 0) (isThird v) (hasDestination places) (rw d at laid)) in
+      rw (none, row)
+
+  pub row-few : ordered (withPredicate (isPredicated token) places) ≤ 5
+  row-few = omega (arith, ordered-predicated (isPredicated token) places, few v (opcodeOf token) places e)
+
+  pub row-passed : (behind : List ℕ) → operandsOf v (opcodeOf token) (withPredicate (isPredicated token) places) behind ≡ Fit →
+      AllPassed v (withPredicate (isPredicated token) places) behind
+  row-passed behind f = by (eqb (opcodeOf token) DCL) refl f
+    where
+      by : (isDcl : Bool) → eqb (opcodeOf token) DCL ≡ isDcl →
+          pick isDcl (declaration v behind) (operands v (withPredicate (isPredicated token) places) 1 behind) ≡ Fit →
+          AllPassed v (withPredicate (isPredicated token) places) behind
+      by true d g = rw (dcl-row (eqb-true _ _ d)) (declared-passed v behind g)
+      by false d g = all-passed v (withPredicate (isPredicated token) places) 1 behind g
