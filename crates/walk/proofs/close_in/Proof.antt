@@ -6,8 +6,11 @@ use Rattle.walk.proofs.close_in.Tie as tie
 enum-told : tie.Need-enum-told
 enum-told c = search needs
 
-add-t6 : tie.Need-add-t6
-add-t6 c = search needs
+sub-t6 : tie.Need-sub-t6
+sub-t6 c = search needs
+
+add-t7 : tie.Need-add-t7
+add-t7 c = search needs
 
 returns : tie.Need-returns
 returns c = simp (eq-eqb _ _ (c .if1 .taken), c .before .enum-told .given .1)
@@ -56,7 +59,8 @@ close-in-spec =
     tie.close
     (tie.spec
     enum-told
-    add-t6
+    sub-t6
+    add-t7
     returns
     enum-told-2
     go-if-requires

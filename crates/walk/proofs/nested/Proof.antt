@@ -1,5 +1,4 @@
 use mathlib.Core.Path.{sym, _∙_}
-use Rattle.walk.proofs.OneToOne.{same-next}
 use borrow.Author.Needs.{needs}
 use Rattle.walk.proofs.nested.Statement.{statement}
 use Rattle.walk.proofs.nested.Tie as tie
@@ -26,13 +25,13 @@ behind-of-requires-2 : tie.Need-behind-of-requires-2
 behind-of-requires-2 c κs = search needs
 
 returns : tie.Need-returns
-returns c = simp (c .behind-of .ensures, sym (same-next _ _ (c .before .before .before .before .next-kinds .ensures)) ∙ c .before .before .next .given .1)
+returns c = simp (c .behind-of .ensures, sym (c .before .before .before .before .next-kinds .ensures) ∙ c .before .before .next .given .1)
 
 returns-2 : tie.Need-returns-2
-returns-2 c = simp (c .refused .ensures, sym (same-next _ _ (c .before .before .before .before .next-kinds .ensures)) ∙ c .before .before .next2 .given .1)
+returns-2 c = simp (c .refused .ensures, sym (c .before .before .before .before .next-kinds .ensures) ∙ c .before .before .next2 .given .1)
 
 returns-3 : tie.Need-returns-3
-returns-3 c = simp (c .behind-of2 .ensures, sym (same-next _ _ (c .before .before .before .next-kinds .ensures)) ∙ c .before .enum-told .given .1)
+returns-3 c = simp (c .behind-of2 .ensures, sym (c .before .before .before .next-kinds .ensures) ∙ c .before .enum-told .given .1)
 
 pub nested-spec : {M : Type 1} → statement M
 nested-spec =
