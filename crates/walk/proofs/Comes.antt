@@ -1,11 +1,11 @@
 -- A walk that takes step after step up to a position: its steps come further each time, and behind the last one the verdict is known.
 use Prim.Native.Nat.{ℕ, _+_, _-_, _≤_, _<_}
-use mathlib.Core.Path.{_≡_}
+use mathlib.Core.Path.{_≡_, refl}
 use mathlib.Core.Bool.{true, false}
 use mathlib.Core.List.{List}
 use native.Mathlib.Omega.{arith}
 use lib.ListN.{length}
-use borrow.Author.Tests.{ltb-true, ltb-false}
+use borrow.Author.Tests.{le-ltb, ltb-true, ltb-false}
 use Rattle.paper.specs.Stream.{walked}
 use Rattle.paper.specs.declared.Version.{Version}
 use Rattle.walk.specs.declared.State.{State}
@@ -30,6 +30,15 @@ on-by : (answer : Move) (state : State) (until : ℕ) → goesOn (stepOf answer 
 on-by On state until g = (cc, ltb-true (state .at) until g)
 on-by Done state until g = let z : _≡_ {A = ℕ} 0 1 = cc in absurd (omega arith)
 on-by (Refused r) state until g = let z : _≡_ {A = ℕ} 0 1 = cc in absurd (omega arith)
+
+-- a step that does not go on before a position does not before an earlier one
+off-by : (answer : Move) (state : State) (until earlier : ℕ) → goesOn (stepOf answer state) until ≡ false → earlier ≤ until → goesOn (stepOf answer state) earlier ≡ false
+off-by On state until earlier g h = le-ltb (state .at) earlier (omega (arith, ltb-false (state .at) until g))
+off-by Done state until earlier g h = refl
+off-by (Refused r) state until earlier g h = refl
+
+pub goes-not : (step : Step) (until earlier : ℕ) → goesOn step until ≡ false → earlier ≤ until → goesOn step earlier ≡ false
+goes-not step until earlier g h = off-by (step .answer) (step .state) until earlier g h
 
 module _ (v : Version) (s : List ℕ) where
   less-by : (answer : Move) (state : State) (more until at : ℕ) → comesBy v s more answer state → at < more → at < until →
