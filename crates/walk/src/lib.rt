@@ -172,17 +172,11 @@ fn counted(class: Class, count: usize) -> usize
     match class {
         Class::One(single) => match single {
             Single::Comment => count,
-            Single::Plain => more,
-            Single::Break => more,
-            Single::Label => more,
-            Single::Return => more,
+            Single::Plain | Single::Break | Single::Label | Single::Return => more,
         },
         Class::Opens(_) => more,
         Class::Closes(closer) => match closer {
-            Closer::Else => more,
-            Closer::EndIf => more,
-            Closer::EndLoop => more,
-            Closer::EndRep => more,
+            Closer::Else | Closer::EndIf | Closer::EndLoop | Closer::EndRep => more,
             Closer::End => count,
         },
     }
