@@ -1,14 +1,11 @@
 -- A turn of the walk over a part of a stream.
 use Prim.Native.Nat.{ℕ, _+_, _*_, _-_, _^_, _≤_, _<_}
-use mathlib.Core.Path.{_≡_, ap, _∙_}
+use mathlib.Core.Path.{_≡_}
 use mathlib.Core.List.{List}
 use mathlib.Core.Logic.{⊎-elim}
 use native.Mathlib.Omega.{arith}
-use lib.ListN.{length, drop}
-use Rattle.paper.specs.Instruction.{judged}
+use lib.ListN.{length}
 use Rattle.paper.specs.declared.Version.{Version}
-use Rattle.told.specs.Numbered.{judgedNumber}
-use Rattle.stretches.specs.Stretch.{toldAt}
 use Rattle.stretches.proofs.Stretches.{told-far, told-end}
 use Rattle.walk.specs.declared.State.{State}
 use Rattle.walk.specs.declared.Step.{Step}

@@ -13,7 +13,7 @@ use Rattle.stretches.specs.declared.Stretch.{Stretch}
 use Rattle.stretches.proofs.Stretches.{told-whole, plain-judged}
 use Rattle.walk.specs.declared.State.{State}
 use Rattle.walk.specs.declared.Step.{Step}
-use Rattle.walk.specs.Steps.{wrapped, passed, onJudged, toldStep, Passes}
+use Rattle.walk.specs.Steps.{passed, onJudged, toldStep, Passes}
 use Rattle.walk.specs.Stands.{Stands, stepAt, Comes}
 use Rattle.walk.proofs.OneToOne.{same-step}
 use Rattle.walk.proofs.Telling.{told-moves}

@@ -1,11 +1,10 @@
-use Prim.Native.Nat.{_+_, _-_, _^_, _≤_, _<_}
+use Prim.Native.Nat.{_+_, _-_, _<_}
 use mathlib.Core.Path.{_≡_, sym, subst, _∙_}
 use mathlib.Core.Bool.{true}
 use native.Mathlib.Omega.{arith}
-use lib.ListN.{length}
 use borrow.Author.Tests.{ltb-false}
 use Rattle.walk.specs.Steps.{goesOn}
-use Rattle.walk.specs.Stands.{Stands, Comes}
+use Rattle.walk.specs.Stands.{Comes}
 use Rattle.walk.proofs.Stretching.{Steps, steps-comes, pass-steps, shows-whole}
 use Rattle.walk.proofs.Comes.{leftTo, comes-on, comes-turn}
 use Rattle.editor.proofs.Onward.{Misses, none-ahead, found-is}
