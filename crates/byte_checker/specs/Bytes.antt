@@ -1,15 +1,14 @@
 -- Document 01, "What the build does": "it hands the check a byte range, tokens little-endian".
 use Prim.Native.Nat.{ℕ, _+_, _*_, _%_}
 use mathlib.Core.List.{List, [], _∷_}
-use lib.Dec.{eqb, ltb}
+use lib.Dec.{eqb}
 use lib.ListN.{length, getD}
 use Rattle.paper.specs.Notation.{pick}
 use Rattle.paper.specs.Numbers.{refusal}
 use Rattle.paper.specs.Stream.{verdict}
-use Rattle.paper.specs.declared.Reason.the-variants.{Length as LENGTH, Tail as TAIL}
+use Rattle.paper.specs.declared.Reason.the-variants.{Length as LENGTH}
 use Rattle.paper.specs.declared.Verdict.{Verdict}
-use Rattle.paper.specs.declared.Verdict.the-variants.{Accepted, Refused}
-use Rattle.walk.specs.declared.State.{State}
+use Rattle.paper.specs.declared.Verdict.the-variants.{Refused}
 
 -- four bytes, the lowest first
 abbrev pub littleEndian : ℕ → ℕ → ℕ → ℕ → ℕ
@@ -30,7 +29,3 @@ tokenIn bytes at = littleEndian (getD bytes (4 * at) 0) (getD bytes (4 * at + 1)
 -- LENGTH: "bytes not a multiple of 4"
 unfoldable pub bytesVerdict : List ℕ → Verdict
 bytesVerdict bytes = pick (eqb (length bytes % 4) 0) (verdict (tokensIn bytes)) (Refused (refusal LENGTH 0))
-
--- behind the END that finishes a stream: "tokens after END" are TAIL
-abbrev pub verdictAtEnd : State → ℕ → Verdict
-verdictAtEnd state tokens = pick (ltb (state .at) tokens) (Refused (refusal TAIL (state .at))) (Accepted (state .count))

@@ -4,25 +4,20 @@ ghost use Prim.Native.Nat.{_+_, _*_, _<_, _≤_};
 ghost use lib.ListN.{length, take, drop};
 ghost use Rattle.paper.specs.Numbers.{told, refusal};
 ghost use Rattle.paper.specs.Stream.{walked};
-ghost use Rattle.walk.specs.Stands.{Stands};
-ghost use Rattle.byte_checker.specs.Bytes.{tokenIn, tokensIn, verdictAtEnd, bytesVerdict};
-ghost use Rattle.byte_checker.specs.Views.{Within, held as heldOf, Comes};
+ghost use Rattle.walk.specs.Stands.{Stands, Comes};
+ghost use Rattle.byte_checker.specs.Bytes.{tokenIn, tokensIn, bytesVerdict};
+ghost use Rattle.byte_checker.specs.Views.{Within, held as heldOf};
 use paper::Named;
 use paper::Reason;
 use paper::Refusal;
 use paper::Verdict;
 use paper::Version;
+use walk::Move;
 use walk::State;
-use walk::Stepped;
-
-// LENGTH: "fewer than 2 or more than 16,384 tokens".
-const MOST_TOKENS: usize = 16384;
+use walk::Step;
 
 // So many tokens are read at once.
 const WINDOW: usize = 128;
-
-// "Bits 27:24 are the size": nothing but a comment claims more tokens behind its first one.
-const MOST_CLAIMED: usize = 15;
 
 fn wide(byte: u8) -> u32
     ensures { λ r. ⌜ (r ≡ byte) × (r < 256) ⌝ }
@@ -61,16 +56,6 @@ fn refused(reason: Reason, position: usize) -> Verdict
     Verdict::Refused(Refusal { reason, position })
 }
 
-// Behind the END that finishes a stream of `tokens` tokens.
-fn conclude(state: State, tokens: usize) -> Verdict
-    ensures { λ r. ⌜ r ≡ verdictAtEnd state tokens ⌝ }
-{
-    if state.at < tokens {
-        return refused(Reason::Tail, state.at);
-    }
-    Verdict::Accepted(state.count)
-}
-
 // A part of a stream, as a window holds it: so many tokens from a position on. The instructions that begin before `until` have all
 // their tokens in it, or the stream's last.
 struct View {
@@ -95,7 +80,7 @@ fn view_from(at: usize, tokens: usize) -> View
     View {
         start: at,
         held: WINDOW,
-        until: at + (WINDOW - MOST_CLAIMED),
+        until: at + (WINDOW - walk::MOST_CLAIMED),
     }
 }
 
@@ -107,36 +92,21 @@ fn walk_view(
     part: &[u32],
     view: View,
     from: State,
-) -> Stepped
+) -> Step
     requires { ⌜ (length (now bytes) ≡ 4 * tokens) × (now part ≡ heldOf (tokensIn (now bytes)) view) × Within tokens view × Stands version (tokensIn (now bytes)) from × (view .start ≤ from .at) × (from .at < view .until) ⌝ }
     ensures { λ r. ⌜ Comes version (tokensIn (now (bytes .entry))) (view .until) r ⌝ }
 {
     let beyond = tokens - (view.start + view.held);
     let stop = view.until - view.start;
-    let mut state = from;
-    loop {
-        let stretch = stretches::judge_stretch(version, part, state.at - view.start, stop, beyond);
-        let stepped = walk::step_told(
-            view.start + stretch.at,
-            state.count + stretch.count,
-            state.kinds,
-            stretch.told,
-        );
-        match stepped {
-            Stepped::On(next) => {
-                if view.until <= next.at {
-                    return Stepped::On(next);
-                }
-                state = next;
-            }
-            Stepped::Done(end) => {
-                return Stepped::Done(end);
-            }
-            Stepped::Refused(refusal) => {
-                return Stepped::Refused(refusal);
-            }
-        }
+    let mut step = Step {
+        answer: Move::On,
+        state: from,
+    };
+    while walk::goes_on(step, view.until) {
+        let state = step.state;
+        step = walk::pass(version, state, part, state.at - view.start, stop, beyond);
     }
+    step
 }
 
 // The walk of a stream, from behind its version on: a window is filled with a part of it, and filled again where that ends.
@@ -145,29 +115,19 @@ fn walk_bytes(version: Version, bytes: &[u8], tokens: usize) -> Verdict
     ensures { λ r. ⌜ r ≡ walked version (tokensIn (now (bytes .entry))) ⌝ }
 {
     let mut window = [0u32; WINDOW];
-    let mut state = State {
-        at: 1,
-        count: 0,
-        kinds: 0,
+    let start = walk::start();
+    let mut step = Step {
+        answer: Move::On,
+        state: start,
     };
-    while state.at < tokens {
+    while walk::goes_on(step, tokens) {
+        let state = step.state;
         let view = view_from(state.at, tokens);
         let held = view.held;
         fill(&mut window, bytes, state.at, held);
-        let stepped = walk_view(version, bytes, tokens, &window[..held], view, state);
-        match stepped {
-            Stepped::On(next) => {
-                state = next;
-            }
-            Stepped::Done(end) => {
-                return conclude(end, tokens);
-            }
-            Stepped::Refused(refusal) => {
-                return Verdict::Refused(refusal);
-            }
-        }
+        step = walk_view(version, bytes, tokens, &window[..held], view, state);
     }
-    refused(Reason::RunOut, tokens)
+    walk::verdict_of(step, tokens)
 }
 
 // The loader "hands the check a byte range, tokens little-endian".
@@ -178,10 +138,10 @@ pub fn check_bytes(bytes: &[u8]) -> Verdict
         return refused(Reason::Length, 0);
     }
     let tokens = bytes.len() / 4;
-    if tokens < 2 {
+    if tokens < paper::FEWEST_TOKENS {
         return refused(Reason::Length, 0);
     }
-    if MOST_TOKENS < tokens {
+    if paper::MOST_TOKENS < tokens {
         return refused(Reason::Length, 0);
     }
     let named = versions::version_of(token_at(bytes, 0));

@@ -28,7 +28,7 @@ use Rattle.splicer.proofs.Answers.{run-taken}
 use Rattle.editor.specs.Found.{Between}
 use Rattle.editor.specs.Answers.{afterPlace, afterVersion}
 
-never : (a : Bool) → a && false ≡ false
+pub never : (a : Bool) → a && false ≡ false
 never true = refl
 never false = refl
 

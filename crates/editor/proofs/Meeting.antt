@@ -1,34 +1,31 @@
 -- Where the walk of the splice meets the old one, and what the edit answers where it does and where it does not.
-use Prim.Native.Nat.{ℕ, _+_, _-_, _^_, _≤_, _<_}
+use Prim.Native.Nat.{ℕ, _+_, _-_, _<_}
 use mathlib.Core.Path.{_≡_, refl, ap, sym, _∙_}
 use mathlib.Core.Bool.{Bool, true, false, _&&_}
 use mathlib.Core.List.{List}
 use native.Mathlib.Omega.{arith}
 use lib.Dec.{eqb, ltb}
 use lib.ListN.{length}
-use borrow.Author.Tests.{eqb-true, eq-eqb, ltb-true, ltb-false}
-use Rattle.paper.specs.Numbers.{refusal}
-use Rattle.paper.specs.Stream.{mostTokens}
+use borrow.Author.Tests.{eqb-true, eq-eqb, le-ltb, ltb-true, ltb-false}
 use Rattle.paper.specs.declared.Version.{Version}
-use Rattle.paper.specs.declared.Reason.the-variants.{RunOut as RUN-OUT}
 use Rattle.edit.specs.declared.Edited.{Edited}
-use Rattle.edit.specs.declared.Edited.the-variants.{Joined, Refused}
+use Rattle.edit.specs.declared.Edited.the-variants.{Joined}
 use Rattle.edit.specs.Boundaries.{nowhere, standsWith, standingAt}
-use Rattle.edit.specs.Edit.{splice, newLength, meetsAtEnd, spliced}
+use Rattle.edit.specs.Edit.{splice, newLength, meetsAtEnd, onVerdict, spliced}
 use Rattle.edit.proofs.Standing.{reached-standing}
 use Rattle.paper.proofs.Bools.{apart}
 use Rattle.edit.proofs.Prefix.{splice-length}
 use Rattle.edit.proofs.SameBlocks.{both, met as both-stand, meeting}
 use Rattle.walk.specs.declared.State.{State}
-use Rattle.walk.specs.declared.Stepped.{Stepped}
-use Rattle.walk.specs.declared.Stepped.the-variants.{On, Done, Refused as Stopped}
+use Rattle.walk.specs.declared.Step.{Step}
 use Rattle.walk.specs.Kinds.{kindsNumber}
-use Rattle.walk.specs.Stands.{Stands, stepAt}
+use Rattle.walk.specs.Steps.{isOn, goesOn, verdictOf}
+use Rattle.walk.specs.Stands.{Stands, stepAt, Comes}
 use Rattle.walk.proofs.OpenBlocks.{number-same}
-use Rattle.walk.proofs.OnStream.{step-on, step-done, step-refused, stands-out, ends-accepted, ends-tail}
+use Rattle.walk.proofs.Comes.{goes-not, comes-verdict}
 use Rattle.editor.specs.Found.{Between}
-use Rattle.editor.specs.Answers.{editAtEnd}
-use Rattle.editor.proofs.Onward.{none-past, none-done, none-refused}
+use Rattle.editor.proofs.Answers.{never}
+use Rattle.editor.proofs.Onward.{none-ahead}
 
 -- two equations, tested together
 both-equal : (a b c d : ℕ) → eqb a b && eqb c d ≡ true → (a ≡ b) × (c ≡ d)
@@ -57,12 +54,9 @@ module _ (v : Version) (old : List ℕ) (first last : State) (run : List ℕ) wh
   abbrev meetsAt : State → Bool
   meetsAt state = eqb (state .at) end && eqb (state .kinds) (last .kinds)
 
-  -- what a step from a state is worth: the walk stands further on, and past the run's end only where it has not met the old one, or the
-  -- edit is answered
-  abbrev pub Turns : State → Stepped → Type 0
-  Turns state (On next) = Stands v stream next × (state .at < next .at) × (end < next .at → Meets false)
-  Turns state (Done done) = editAtEnd done whole ≡ answer
-  Turns state (Stopped r) = Refused r ≡ answer
+  -- where a step does not go on at the run's end or before it, the walk has not met the old one
+  abbrev pub Unmet : Step → Type 0
+  Unmet step = goesOn step (end + 1) ≡ false → Meets false
 
   module _ (b : Between v old first last) where
     long : length stream ≡ whole
@@ -113,50 +107,21 @@ module _ (v : Version) (old : List ℕ) (first last : State) (run : List ℕ) wh
           let t = both-equal (state .at) end (state .kinds) (last .kinds) met in
           rw (meets-here (t .0) (t .1), as-told)
 
-      module _ (past : end < state .at → Meets false) where
-        -- RUN-OUT
-        pub turn-out : whole ≤ state .at → Refused (refusal RUN-OUT whole) ≡ answer
-        turn-out le =
-            let i = b .inside in
-            rw (past (omega arith), stands-out v stream state h (omega (arith, long)), long)
+    -- a turn of the loop that does not meet the old walk
+    module _ (step : Step) (unmet : Unmet step) (h : Stands v stream (step .state)) (before : step .state .at < whole) (other : meetsAt (step .state) ≡ false) where
+      pub turn-unmet : Unmet (stepAt v stream (step .state))
+      turn-unmet off = by-order (ltb (step .state .at) end) refl (ltb end (step .state .at)) refl
+        where
+          by-order : (x : Bool) → ltb (step .state .at) end ≡ x → (y : Bool) → ltb end (step .state .at) ≡ y → Meets false
+          by-order true e y f = nowhere-meets (none-ahead v stream (step .state) h (omega (arith, long)) end (ltb-true (step .state .at) end e) off)
+          by-order false e true f = unmet (rw (le-ltb (step .state .at) (end + 1) (omega (arith, ltb-true end (step .state .at) f))) (never (isOn (step .answer))))
+          by-order false e false f =
+              let here : step .state .at ≡ end = omega (arith, ltb-false (step .state .at) end e, ltb-false end (step .state .at) f) in
+              differs-here (step .state) h here (not-both (step .state .at) end (step .state .kinds) (last .kinds) other here)
 
-        -- a turn of the loop that does not meet the old walk
-        module _ (few : newLength (length old) (first .at) (last .at) (length run) ≤ mostTokens) (before : state .at < whole) (other : meetsAt state ≡ false) where
-          inside : state .at < length stream
-          inside = omega (arith, long)
-
-          fits : length stream < 2 ^ 64
-          fits = omega (arith, long, as-told)
-
-          unmet : (state .at < end → standingAt v stream end ≡ nowhere) → Meets false
-          unmet none = by-order (ltb (state .at) end) refl (ltb end (state .at)) refl
-            where
-              by-order : (x : Bool) → ltb (state .at) end ≡ x → (y : Bool) → ltb end (state .at) ≡ y → Meets false
-              by-order true e y f = nowhere-meets (none (ltb-true (state .at) end e))
-              by-order false e true f = past (ltb-true end (state .at) f)
-              by-order false e false f =
-                  let here : state .at ≡ end = omega (arith, ltb-false (state .at) end e, ltb-false end (state .at) f) in
-                  differs-here here (not-both (state .at) end (state .kinds) (last .kinds) other here)
-
-          done-by : (done : State) → stepAt v stream state ≡ Done done → (x : Bool) → ltb (done .at) whole ≡ x → editAtEnd done whole ≡ answer
-          done-by done e true f =
-              rw (
-                f,
-                unmet (λ ahead. none-done v stream state h inside fits end ahead done e),
-                ends-tail v stream done (step-done v stream state h inside fits done e) (omega (arith, ltb-true (done .at) whole f, long)),
-              )
-          done-by done e false f =
-              rw (
-                f,
-                unmet (λ ahead. none-done v stream state h inside fits end ahead done e),
-                ends-accepted v stream done (step-done v stream state h inside fits done e) (omega (arith, ltb-false (done .at) whole f, long)),
-                as-told,
-              )
-
-          pub turn : (x : Stepped) → stepAt v stream state ≡ x → Turns state x
-          turn (On next) e =
-              let on = step-on v stream state h inside fits next e in
-              (on .0, on .1, λ l. unmet (λ ahead. none-past v stream state h inside fits end ahead next e l))
-          turn (Done done) e = done-by done e (ltb (done .at) whole) refl
-          turn (Stopped r) e =
-              rw (unmet (λ ahead. none-refused v stream state h inside fits end ahead r e), step-refused v stream state h inside fits r e)
+    -- behind the last step: all of the splice is read
+    pub turn-last : (step : Step) → Comes v stream (first .at) step → Unmet step → goesOn step whole ≡ false → onVerdict (verdictOf step whole) whole ≡ answer
+    turn-last step comes unmet off =
+        let i = b .inside in
+        let read = comes-verdict v stream step (first .at) comes (rw long off) in
+        rw (unmet (goes-not step whole (end + 1) off (omega arith)), ← read, long, ← as-told)

@@ -1,6 +1,7 @@
 -- Boundaries, as the code finds them.
 use Prim.Native.Nat.{ℕ, _+_, _-_, _≤_, _<_}
 use mathlib.Core.Path.{_≡_}
+use mathlib.Core.Bool.{Bool, true, false}
 use mathlib.Core.List.{List}
 use lib.ListN.{length}
 use Rattle.paper.specs.Stream.{mostTokens}
@@ -9,12 +10,14 @@ use Rattle.edit.specs.Boundaries.{nowhere, standingAt}
 use Rattle.walk.specs.declared.State.{State}
 use Rattle.walk.specs.Stands.{Stands}
 use Rattle.editor.specs.declared.Found.{Found}
-use Rattle.editor.specs.declared.Found.the-variants.{At, Nowhere}
 
 -- the walk stands at the position so, or the position is no boundary
+abbrev pub foundBy : Version → List ℕ → ℕ → Bool → State → Type 0
+foundBy v s target true state = Stands v s state × (state .at ≡ target)
+foundBy v s target false state = standingAt v s target ≡ nowhere
+
 abbrev pub FoundAt : Version → List ℕ → ℕ → Found → Type 0
-FoundAt v s target (At state) = Stands v s state × (state .at ≡ target)
-FoundAt v s target Nowhere = standingAt v s target ≡ nowhere
+FoundAt v s target found = foundBy v s target (found .there) (found .state)
 
 -- both places of an edit, in order
 pub record Between (v : Version) (old : List ℕ) (first last : State) : Type 0 where

@@ -5,29 +5,25 @@ ghost use Prim.Native.Nat.{_+_, _-_, _<_, _≤_};
 ghost use lib.ListN.{length, take, drop, getD};
 ghost use Rattle.paper.specs.Numbers.{refusal};
 ghost use Rattle.paper.specs.Stream.{mostTokens};
-ghost use Rattle.edit.specs.Edit.{splice, newLength, spliced, edited, editedIn, bufferAfter, toldEdit};
+ghost use Rattle.edit.specs.Edit.{splice, newLength, onVerdict, spliced, edited, editedIn, bufferAfter, toldEdit};
 ghost use Rattle.walk.specs.Stands.{Stands, stepAt};
 ghost use Rattle.editor.specs.Steps.{behindRun};
 ghost use Rattle.editor.specs.Found.{FoundAt, Between, InSplice};
-ghost use Rattle.editor.specs.Answers.{editAtEnd, afterPlace, afterVersion};
+ghost use Rattle.editor.specs.Answers.{afterPlace, afterVersion};
 use edit::Edited;
 use paper::Named;
 use paper::Reason;
 use paper::Refusal;
+use paper::Verdict;
 use paper::Version;
+use walk::Move;
 use walk::State;
-use walk::Stepped;
+use walk::Step;
 
-// LENGTH: "fewer than 2 or more than 16,384 tokens".
-const MOST_TOKENS: usize = 16384;
-
-// "Bits 27:24 are the size": an instruction is judged by no more than its first token and fifteen behind it.
-const MOST_SHOWN: usize = 16;
-
-// A walk comes to a position, and stands there so, or it does not come there.
-enum Found {
-    At(State),
-    Nowhere,
+// Whether a walk comes to a position, and how it stands there.
+struct Found {
+    there: bool,
+    state: State,
 }
 
 fn refused(reason: Reason, position: usize) -> Edited
@@ -41,31 +37,17 @@ fn walk_to(version: Version, tokens: &[u32], from: State, target: usize) -> Foun
     requires { ⌜ Stands version (now tokens) from × (from .at ≤ target) × (target < length (now tokens)) ⌝ }
     ensures { λ r. ⌜ FoundAt version (now (tokens .entry)) target r ⌝ }
 {
-    let mut state = from;
-    while state.at < target {
-        let stretch = stretches::judge_stretch(version, tokens, state.at, target, 0);
-        let stepped = walk::step_told(
-            stretch.at,
-            state.count + stretch.count,
-            state.kinds,
-            stretch.told,
-        );
-        match stepped {
-            Stepped::On(next) => {
-                if target < next.at {
-                    return Found::Nowhere;
-                }
-                state = next;
-            }
-            Stepped::Done(_) => {
-                return Found::Nowhere;
-            }
-            Stepped::Refused(_) => {
-                return Found::Nowhere;
-            }
-        }
+    let mut step = Step {
+        answer: Move::On,
+        state: from,
+    };
+    while walk::goes_on(step, target) {
+        let state = step.state;
+        step = walk::pass(version, state, tokens, state.at, target, 0);
     }
-    Found::At(state)
+    let there = walk::goes_on(step, target + 1);
+    let state = step.state;
+    Found { there, state }
 }
 
 // The token at `at` of the run and the old tokens from `j` on, as the splice has them.
@@ -95,10 +77,10 @@ fn gather(window: &mut [u32], run: &[u32], old: &[u32], j: usize, from: usize, n
 fn shown_of(left: usize) -> usize
     ensures { λ r. ⌜ r + (left - 16) ≡ left ⌝ }
 {
-    if left < MOST_SHOWN {
+    if left < walk::MOST_SHOWN {
         return left;
     }
-    MOST_SHOWN
+    walk::MOST_SHOWN
 }
 
 // The step at `state` of the splice, at i or behind. Only an instruction of the run that may take old tokens is gathered into the
@@ -111,33 +93,33 @@ fn step_spliced(
     run: &[u32],
     state: State,
     window: &mut [u32],
-) -> Stepped
+) -> Step
     requires { ⌜ InSplice (now old) i j (now run) (state .at) × (length (now window) ≡ 16) ⌝ }
     ensures { λ r. ⌜ r ≡ stepAt version (splice (now (old .entry)) i j (now (run .entry))) state ⌝ }
 {
     let at = state.at - i;
     if run.len() <= at {
-        return walk::step_in(version, state, old, j + (at - run.len()), 0);
+        return walk::pass(version, state, old, j + (at - run.len()), 0, 0);
     }
     let own = run.len() - at;
     let rest = old.len() - j;
-    if MOST_SHOWN <= own {
-        return walk::step_in(version, state, run, at, rest);
+    if walk::MOST_SHOWN <= own {
+        return walk::pass(version, state, run, at, 0, rest);
     }
     let left = own + rest;
     let shown = shown_of(left);
     gather(window, run, old, j, at, shown);
-    walk::step_in(version, state, &window[..shown], 0, left - shown)
+    walk::pass(version, state, &window[..shown], 0, 0, left - shown)
 }
 
-// Behind the END that finishes a splice of `length` tokens.
-fn conclude(state: State, tokens: usize) -> Edited
-    ensures { λ r. ⌜ r ≡ editAtEnd state tokens ⌝ }
+// What an edit answers where all of a splice of so many tokens is read.
+fn answer_of(verdict: Verdict, tokens: usize) -> Edited
+    ensures { λ r. ⌜ r ≡ onVerdict verdict tokens ⌝ }
 {
-    if state.at < tokens {
-        return refused(Reason::Tail, state.at);
+    match verdict {
+        Verdict::Accepted(_) => Edited::Accepted(tokens),
+        Verdict::Refused(refusal) => Edited::Refused(refusal),
     }
-    Edited::Accepted(tokens)
 }
 
 // The walk of the splice from i on, where the old stream stands as `first`. At the run's end with the blocks of `last`, where it
@@ -150,26 +132,19 @@ fn walk_spliced(version: Version, old: &[u32], first: State, last: State, run: &
     let j = last.at;
     let end = i + run.len();
     let length = end + (old.len() - j);
-    let mut window = [0u32; 16];
-    let mut state = first;
-    while state.at < length {
+    let mut window = [0u32; walk::MOST_SHOWN];
+    let mut step = Step {
+        answer: Move::On,
+        state: first,
+    };
+    while walk::goes_on(step, length) {
+        let state = step.state;
         if (state.at == end) & (state.kinds == last.kinds) {
             return Edited::Joined(length);
         }
-        let stepped = step_spliced(version, old, i, j, run, state, &mut window);
-        match stepped {
-            Stepped::On(next) => {
-                state = next;
-            }
-            Stepped::Done(done) => {
-                return conclude(done, length);
-            }
-            Stepped::Refused(refusal) => {
-                return Edited::Refused(refusal);
-            }
-        }
+        step = step_spliced(version, old, i, j, run, state, &mut window);
     }
-    refused(Reason::RunOut, length)
+    answer_of(walk::verdict_of(step, length), length)
 }
 
 // "ROOM (new length n - (j - i) + m against buffer and 16,384)". The sum is made only where it fits.
@@ -185,7 +160,7 @@ fn edit_placed(
     ensures { λ r. ⌜ r ≡ afterPlace version room (now (old .entry)) (first .at) (last .at) (now (run .entry)) ⌝ }
 {
     let kept = old.len() - (last.at - first.at);
-    if MOST_TOKENS - kept < run.len() {
+    if paper::MOST_TOKENS - kept < run.len() {
         return refused(Reason::Room, 0);
     }
     if room < kept + run.len() {
@@ -207,10 +182,11 @@ fn edit_behind(
     ensures { λ r. ⌜ r ≡ afterVersion version room (now (old .entry)) (first .at) j (now (run .entry)) ⌝ }
 {
     let found = walk_to(version, old, first, j);
-    match found {
-        Found::At(last) => edit_placed(version, old, room, first, last, run),
-        Found::Nowhere => refused(Reason::Place, 0),
+    if found.there {
+        let last = found.state;
+        return edit_placed(version, old, room, first, last, run);
     }
+    refused(Reason::Place, 0)
 }
 
 // "PLACE (i and j boundaries, i at most j)".
@@ -227,26 +203,22 @@ fn edit_known(version: Version, old: &[u32], room: usize, i: usize, j: usize, ru
     if old.len() <= j {
         return refused(Reason::Place, 0);
     }
-    let start = State {
-        at: 1,
-        count: 0,
-        kinds: 0,
-    };
-    let found = walk_to(version, old, start, i);
-    match found {
-        Found::At(first) => edit_behind(version, old, room, first, j, run),
-        Found::Nowhere => refused(Reason::Place, 0),
+    let found = walk_to(version, old, walk::start(), i);
+    if found.there {
+        let first = found.state;
+        return edit_behind(version, old, room, first, j, run);
     }
+    refused(Reason::Place, 0)
 }
 
 // "Order: LENGTH, VERSION, PLACE .., ROOM ..": the edit of a stream, in a buffer with so much room.
 fn edit_stream(old: &[u32], room: usize, i: usize, j: usize, run: &[u32]) -> Edited
     ensures { λ r. ⌜ r ≡ edited room (now (old .entry)) i j (now (run .entry)) ⌝ }
 {
-    if old.len() < 2 {
+    if old.len() < paper::FEWEST_TOKENS {
         return refused(Reason::Length, 0);
     }
-    if MOST_TOKENS < old.len() {
+    if paper::MOST_TOKENS < old.len() {
         return refused(Reason::Length, 0);
     }
     let named = versions::version_of(old[0]);

@@ -1,6 +1,7 @@
 pub mod OpenBlocks
 pub mod Bounds
 pub mod OnStream
+pub mod Comes
 pub mod Telling
 pub mod Stretching
 pub mod OneToOne

@@ -1,45 +1,44 @@
--- What is told of a step, and of what it does to the open blocks, leaves one answer.
+-- What is told of a step leaves one answer, and so does the promise of a pass.
+use Prim.Native.Nat.{ℕ}
 use mathlib.Core.Path.{_≡_, refl, ap, sym, _∙_}
-use mathlib.Core.Bool.{false}
+use mathlib.Core.List.{List}
 use lib.Dec.{eqb}
 use borrow.Author.Tests.{ne-eqb}
 use Rattle.paper.specs.Notation.{pick}
 use Rattle.paper.specs.Numbers.{numberOf, reasonBy, refusal}
+use Rattle.paper.specs.declared.Version.{Version}
 use Rattle.paper.specs.declared.Reason.{Reason}
 use Rattle.paper.proofs.OneToOne.{reason-back, no-reason-zero}
-use Rattle.walk.specs.declared.Next.{Next}
-use Rattle.walk.specs.declared.Next.the-variants.{Go, Bad, Finish}
-use Rattle.walk.specs.declared.Stepped.{Stepped}
-use Rattle.walk.specs.declared.Stepped.the-variants.{On, Done, Refused}
-use Rattle.walk.specs.Kinds.{ToldNext, toldNext}
-use Rattle.walk.specs.Steps.{ToldStepped, toldStepped}
+use Rattle.told.specs.Numbered.{judgedFrom}
+use Rattle.stretches.specs.declared.Stretch.{Stretch}
+use Rattle.stretches.proofs.Stretches.{one-stretch}
+use Rattle.walk.specs.declared.State.{State}
+use Rattle.walk.specs.declared.Move.{Move}
+use Rattle.walk.specs.declared.Move.the-variants.{On, Done, Refused}
+use Rattle.walk.specs.declared.Step.{Step}
+use Rattle.walk.specs.Steps.{passed, stepOf, onJudged, ToldStep, toldMove, toldStep, Passes}
 
--- no refusal has the number of a yes
-not-a-yes : (r : Reason) → eqb (numberOf r) 0 ≡ false
-not-a-yes r = ne-eqb (numberOf r) 0 (λ e. no-reason-zero r (sym e))
+stepFrom : ToldStep → Step
+stepFrom t =
+    stepOf
+    (pick (eqb (t .number) 0) (pick (eqb (t .finished) 0) On Done) (Refused (refusal (reasonBy (t .number)) (t .position))))
+    (t .state)
 
-nextFrom : ToldNext → Next
-nextFrom t = pick (eqb (t .number) 0) (pick (eqb (t .finished) 0) (Go (t .kinds)) Finish) (Bad (reasonBy (t .number)))
+step-back : (answer : Move) (state : State) → stepFrom (toldMove answer state) ≡ stepOf answer state
+unfolding stepFrom
+step-back On state = refl
+step-back Done state = refl
+step-back (Refused r) state =
+    rw (ne-eqb (numberOf (r .reason)) 0 (λ e. no-reason-zero (r .reason) (sym e)))
+    (ap (λ (x : Reason). stepOf (Refused (refusal x (r .position))) state) (reason-back (r .reason)))
 
-next-back : (n : Next) → nextFrom (toldNext n) ≡ n
-unfolding nextFrom toldNext
-next-back (Go kinds) = refl
-next-back (Bad reason) = rw (not-a-yes reason) (ap Bad (reason-back reason))
-next-back Finish = refl
+pub same-step : (a b : Step) → toldStep a ≡ toldStep b → a ≡ b
+unfolding toldStep
+same-step a b e = sym (step-back (a .answer) (a .state)) ∙ ap stepFrom e ∙ step-back (b .answer) (b .state)
 
-pub same-next : (a b : Next) → toldNext a ≡ toldNext b → a ≡ b
-same-next a b e = sym (next-back a) ∙ ap nextFrom e ∙ next-back b
-
-steppedFrom : ToldStepped → Stepped
-steppedFrom t =
-    pick (eqb (t .number) 0) (pick (eqb (t .finished) 0) (On (t .state)) (Done (t .state)))
-    (Refused (refusal (reasonBy (t .number)) (t .position)))
-
-stepped-back : (s : Stepped) → steppedFrom (toldStepped s) ≡ s
-unfolding steppedFrom toldStepped
-stepped-back (On state) = refl
-stepped-back (Done state) = refl
-stepped-back (Refused r) = rw (not-a-yes (r .reason)) (ap (λ (x : Reason). Refused (refusal x (r .position))) (reason-back (r .reason)))
-
-pub same-stepped : (a b : Stepped) → toldStepped a ≡ toldStepped b → a ≡ b
-same-stepped a b e = sym (stepped-back a) ∙ ap steppedFrom e ∙ stepped-back b
+pub one-pass : (v : Version) (tokens : List ℕ) (state : State) (at stop beyond : ℕ) (a b : Step) →
+    Passes v tokens state at stop beyond (toldStep a) → Passes v tokens state at stop beyond (toldStep b) → a ≡ b
+one-pass v tokens state at stop beyond a b p q =
+    let same : p .stretch ≡ q .stretch = one-stretch v tokens beyond stop at (p .stretch) (q .stretch) (p .stretched) (q .stretched) in
+    same-step a b
+    (p .steps ∙ ap (λ (r : Stretch). toldStep (onJudged (judgedFrom (r .told)) (passed state at r))) same ∙ sym (q .steps))

@@ -1,6 +1,6 @@
 -- The number of the open blocks, and the step over it.
 use Prim.Native.Nat.{ℕ, zero, suc, _+_, _*_, _^_, _≤_, _<_, _/_, _%_}
-use mathlib.Core.Path.{_≡_, refl, ap, _∙_}
+use mathlib.Core.Path.{_≡_, refl, ap, sym, _∙_}
 use mathlib.Core.Bool.{Bool, true, false, _||_}
 use mathlib.Core.List.{List, [], _∷_}
 use native.Mathlib.Nat.{pow-suc}
@@ -22,7 +22,7 @@ use Rattle.paper.specs.declared.Closer.the-variants.{Else, EndIf, EndLoop, EndR
 use Rattle.paper.specs.declared.Reason.{Reason}
 use Rattle.paper.specs.declared.Reason.the-variants.{Block as BLOCK, Depth as DEPTH}
 use Rattle.walk.specs.declared.Next.the-variants.{Go, Bad}
-use Rattle.walk.specs.Kinds.{openerDigit, digitOf, kindsNumber, numbered, loopDigit, loopWithin, inLoopBy, allowedBy, standsBy, opensBy, closesBy, nextBy}
+use Rattle.walk.specs.Kinds.{base, openerDigit, digitOf, kindsNumber, numbered, loopDigit, loopWithin, inLoopBy, allowedBy, standsBy, opensBy, closesBy, nextBy}
 
 digit-small : (k : Kind) → (1 ≤ digitOf k) × (digitOf k ≤ 4)
 digit-small (opened If) = omega arith
@@ -32,23 +32,20 @@ digit-small pastElse = omega arith
 
 -- one-to-one
 
+kindFrom : ℕ → Kind
+kindFrom digit =
+    pick (eqb digit (openerDigit If)) (opened If)
+    (pick (eqb digit (openerDigit Loop)) (opened Loop) (pick (eqb digit (openerDigit Rep)) (opened Rep) pastElse))
+
+kind-back : (k : Kind) → kindFrom (digitOf k) ≡ k
+unfolding kindFrom
+kind-back (opened If) = refl
+kind-back (opened Loop) = refl
+kind-back (opened Rep) = refl
+kind-back pastElse = refl
+
 digit-same : (k l : Kind) → digitOf k ≡ digitOf l → k ≡ l
-digit-same (opened If) (opened If) e = refl
-digit-same (opened If) (opened Loop) e = absurd (omega arith)
-digit-same (opened If) (opened Rep) e = absurd (omega arith)
-digit-same (opened If) pastElse e = absurd (omega arith)
-digit-same (opened Loop) (opened If) e = absurd (omega arith)
-digit-same (opened Loop) (opened Loop) e = refl
-digit-same (opened Loop) (opened Rep) e = absurd (omega arith)
-digit-same (opened Loop) pastElse e = absurd (omega arith)
-digit-same (opened Rep) (opened If) e = absurd (omega arith)
-digit-same (opened Rep) (opened Loop) e = absurd (omega arith)
-digit-same (opened Rep) (opened Rep) e = refl
-digit-same (opened Rep) pastElse e = absurd (omega arith)
-digit-same pastElse (opened If) e = absurd (omega arith)
-digit-same pastElse (opened Loop) e = absurd (omega arith)
-digit-same pastElse (opened Rep) e = absurd (omega arith)
-digit-same pastElse pastElse e = refl
+digit-same k l e = sym (kind-back k) ∙ ap kindFrom e ∙ kind-back l
 
 -- equal numbers are of equal open blocks
 pub number-same : (ks ls : List Kind) → kindsNumber ks ≡ kindsNumber ls → ks ≡ ls
@@ -63,35 +60,35 @@ number-same (k ∷ ks) (l ∷ ls) e =
 
 -- how many blocks are open is seen from their number
 
-pub number-below : (n : ℕ) (ks : List Kind) → length ks ≤ n → kindsNumber ks < 5 ^ n
+pub number-below : (n : ℕ) (ks : List Kind) → length ks ≤ n → kindsNumber ks < base ^ n
 unfolding kindsNumber
 number-below zero [] h = omega arith
 number-below zero (k ∷ ks) h = absurd (omega arith)
 number-below (suc n) [] h = rw pow-suc (omega (arith, number-below n [] (omega arith)))
 number-below (suc n) (k ∷ ks) h = rw pow-suc (omega (arith, number-below n ks (omega arith), digit-small k))
 
-pub number-above : (n : ℕ) (ks : List Kind) → n < length ks → 5 ^ n ≤ kindsNumber ks
+pub number-above : (n : ℕ) (ks : List Kind) → n < length ks → base ^ n ≤ kindsNumber ks
 unfolding kindsNumber
 number-above n [] h = absurd (omega arith)
 number-above zero (k ∷ ks) h = omega (arith, digit-small k)
 number-above (suc n) (k ∷ ks) h = rw pow-suc (omega (arith, number-above n ks (omega arith)))
 
-depth-seen : (ks : List Kind) (below : Bool) → ltb (length ks) mostOpen ≡ below → ltb (kindsNumber ks) (5 ^ 23) ≡ below
-depth-seen ks true e = lt-ltb (kindsNumber ks) (5 ^ 23) (number-below 23 ks (omega (arith, ltb-true (length ks) mostOpen e)))
-depth-seen ks false e = le-ltb (kindsNumber ks) (5 ^ 23) (number-above 23 ks (omega (arith, ltb-false (length ks) mostOpen e)))
+depth-seen : (ks : List Kind) (below : Bool) → ltb (length ks) mostOpen ≡ below → ltb (kindsNumber ks) (base ^ 23) ≡ below
+depth-seen ks true e = lt-ltb (kindsNumber ks) (base ^ 23) (number-below 23 ks (omega (arith, ltb-true (length ks) mostOpen e)))
+depth-seen ks false e = le-ltb (kindsNumber ks) (base ^ 23) (number-above 23 ks (omega (arith, ltb-false (length ks) mostOpen e)))
 
 -- the digits
 
-last : (n : ℕ) (k : Kind) → (n * 5 + digitOf k) % 5 ≡ digitOf k
+last : (n : ℕ) (k : Kind) → (n * base + digitOf k) % base ≡ digitOf k
 last n k = omega (arith, digit-small k)
 
-others : (n : ℕ) (k : Kind) → (n * 5 + digitOf k) / 5 ≡ n
+others : (n : ℕ) (k : Kind) → (n * base + digitOf k) / base ≡ n
 others n k = omega (arith, digit-small k)
 
 none-open : (ks : List Kind) → eqb (kindsNumber ks) 0 ≡ isZero (length ks)
 unfolding kindsNumber
 none-open [] = refl
-none-open (k ∷ ks) = ne-eqb (kindsNumber ks * 5 + digitOf k) 0 (λ e. omega (arith, digit-small k))
+none-open (k ∷ ks) = ne-eqb (kindsNumber ks * base + digitOf k) 0 (λ e. omega (arith, digit-small k))
 
 -- the bound on the digits does not matter where it is enough
 pub digits-enough : (f g kinds : ℕ) → kinds ≤ f → kinds ≤ g → loopWithin f kinds ≡ loopWithin g kinds
@@ -102,16 +99,16 @@ digits-enough zero (suc g) kinds h j =
 digits-enough (suc f) zero kinds h j =
     let none : kinds ≡ 0 = omega arith in
     rw none (digits-enough f zero 0 (omega arith) (omega arith))
-digits-enough (suc f) (suc g) kinds h j = ap (_||_ (loopDigit (kinds % 5))) (digits-enough f g (kinds / 5) (omega arith) (omega arith))
+digits-enough (suc f) (suc g) kinds h j = ap (_||_ (loopDigit (kinds % base))) (digits-enough f g (kinds / base) (omega arith) (omega arith))
 
 pub loop-none : inLoopBy 0 ≡ false
 unfolding inLoopBy
 loop-none = refl
 
-pub loop-first : (kinds : ℕ) → (kinds ≡ 0 → ⊥) → inLoopBy kinds ≡ loopDigit (kinds % 5) || inLoopBy (kinds / 5)
+pub loop-first : (kinds : ℕ) → (kinds ≡ 0 → ⊥) → inLoopBy kinds ≡ loopDigit (kinds % base) || inLoopBy (kinds / base)
 unfolding inLoopBy
 loop-first zero h = absurd (h refl)
-loop-first (suc n) h = ap (_||_ (loopDigit (suc n % 5))) (digits-enough n (suc n / 5) (suc n / 5) (omega arith) (omega arith))
+loop-first (suc n) h = ap (_||_ (loopDigit (suc n % base))) (digits-enough n (suc n / base) (suc n / base) (omega arith) (omega arith))
 
 loop-digit : (k : Kind) (within : Bool) → loopDigit (digitOf k) || within ≡ loops k within
 loop-digit (opened If) within = refl
@@ -123,7 +120,7 @@ loop-seen : (ks : List Kind) → inLoopBy (kindsNumber ks) ≡ inLoop ks
 unfolding kindsNumber
 loop-seen [] = loop-none
 loop-seen (k ∷ ks) =
-    loop-first (kindsNumber ks * 5 + digitOf k) (λ e. omega (arith, digit-small k))
+    loop-first (kindsNumber ks * base + digitOf k) (λ e. omega (arith, digit-small k))
     ∙ rw (last (kindsNumber ks) k, others (kindsNumber ks) k, loop-seen ks) (loop-digit k (inLoop ks))
 
 -- the step over numbers is the step over lists
@@ -140,7 +137,7 @@ stands-is ks Label = rw (none-open ks) (numbered-pick (isZero (length ks)) ks)
 stands-is ks Return = rw (none-open ks) (numbered-pick (isZero (length ks)) ks)
 
 opens-cases : (ks : List Kind) (o : Opener) (below : Bool) →
-    pick below (Go (kindsNumber ks * 5 + openerDigit o)) (Bad DEPTH) ≡ numbered (pick below (go (opened o ∷ ks)) (bad DEPTH))
+    pick below (Go (kindsNumber ks * base + openerDigit o)) (Bad DEPTH) ≡ numbered (pick below (go (opened o ∷ ks)) (bad DEPTH))
 unfolding kindsNumber
 opens-cases ks o true = refl
 opens-cases ks o false = refl
@@ -149,7 +146,7 @@ opens-is : (ks : List Kind) (o : Opener) → opensBy (kindsNumber ks) o ≡ numb
 opens-is ks o = rw (depth-seen ks (ltb (length ks) mostOpen) refl) (opens-cases ks o (ltb (length ks) mostOpen))
 
 module _ (ks : List Kind) where
-  closes-top : (k : Kind) (c : Closer) → closesBy (kindsNumber ks * 5 + digitOf k) c ≡ numbered (closeAt c (k ∷ ks))
+  closes-top : (k : Kind) (c : Closer) → closesBy (kindsNumber ks * base + digitOf k) c ≡ numbered (closeAt c (k ∷ ks))
   unfolding kindsNumber
   closes-top (opened If) Else = rw (last (kindsNumber ks) (opened If)) (ap Go (omega arith))
   closes-top (opened If) EndIf = rw (last (kindsNumber ks) (opened If), others (kindsNumber ks) (opened If))

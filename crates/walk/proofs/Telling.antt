@@ -1,25 +1,17 @@
 -- A step by the number that tells of its instruction.
-use Prim.Native.Nat.{ℕ, _+_, _/_, _%_, _-_, _<_, _≤_}
-use mathlib.Core.Path.{_≡_, ap, sym, _∙_}
+use Prim.Native.Nat.{ℕ, _+_, _<_, _≤_}
+use mathlib.Core.Path.{_≡_, ap, _∙_}
 use mathlib.Core.List.{List}
 use lib.ListN.{length, take, drop}
-use borrow.Author.Tests.{eq-eqb}
 use Rattle.paper.specs.Instruction.{judged}
 use Rattle.paper.specs.declared.Version.{Version}
-use Rattle.paper.specs.declared.Class.the-variants.{One}
-use Rattle.paper.specs.declared.Single.the-variants.{Plain}
 use Rattle.paper.specs.declared.Judged.{Judged}
 use Rattle.told.specs.Numbered.{judgedNumber, judgedFrom}
 use Rattle.stretches.specs.Stretch.{toldAt}
 use Rattle.told.proofs.Numbers.{judged-back}
-use Rattle.stretches.proofs.Stretches.{told-whole, told-far, told-end, plain-from}
+use Rattle.stretches.proofs.Stretches.{told-whole, told-far, told-end}
 use Rattle.walk.specs.declared.State.{State}
-use Rattle.walk.specs.declared.Stepped.the-variants.{On}
-use Rattle.walk.specs.Steps.{behindOf, onJudged}
-
--- an instruction that computes goes on with the blocks as they are
-pub plain-moves : (state : State) (told : ℕ) → told % 32 ≡ 2 → On (behindOf state (told / 32) (One Plain) (state .kinds)) ≡ onJudged (judgedFrom told) state
-plain-moves state told h = ap (λ (x : Judged). onJudged x state) (sym (plain-from told (eq-eqb (told % 32) 2 h)))
+use Rattle.walk.specs.Steps.{onJudged}
 
 -- what is told of an instruction moves the state as the instruction does
 pub told-moves : (state : State) (told : ℕ) (j : Judged) → told ≡ judgedNumber j → onJudged (judgedFrom told) state ≡ onJudged j state

@@ -1,16 +1,10 @@
-// The walk of a stream, one instruction a step: document 01, "The numbers given back" and "Blocks".
+// The walk of a stream, a stretch of plain instructions and one more at a time: document 01, "The numbers given back" and "Blocks".
 ghost use mathlib.Core.Path.{_≡_};
-ghost use Prim.Native.Nat.{_/_, _%_};
-ghost use lib.Dec.{eqb};
-ghost use Rattle.paper.specs.Numbers.{refusal};
-ghost use Rattle.paper.specs.declared.Class.the-variants.{One};
-ghost use Rattle.paper.specs.declared.Single.the-variants.{Plain};
+ghost use Rattle.paper.specs.Numbers.{refusal, told};
 ghost use Rattle.paper.specs.Walk.{counts};
 ghost use Rattle.told.specs.Numbered.{judgedFrom};
-ghost use Rattle.stretches.specs.Stretch.{toldAt};
-ghost use Rattle.walk.specs.Kinds.{inLoopBy, allowedBy, standsBy, opensBy, closesBy, nextBy, toldNext};
-ghost use Rattle.walk.specs.Steps.{wrapped, stateOf, behindOf, onNextBy, onJudged, toldStepped};
-ghost use Rattle.walk.specs.declared.Stepped.the-variants.{On};
+ghost use Rattle.walk.specs.Kinds.{inLoopBy, allowedBy, standsBy, opensBy, closesBy, nextBy};
+ghost use Rattle.walk.specs.Steps.{wrapped, begun, behindOf, stepOf, onNextBy, onJudged, goesOn, endOf, verdictOf, toldStep, Passes};
 use paper::Class;
 use paper::Closer;
 use paper::Judged;
@@ -18,9 +12,27 @@ use paper::Opener;
 use paper::Reason;
 use paper::Refusal;
 use paper::Single;
+use paper::Verdict;
 use paper::Version;
 
-// 5^23: with 24 blocks open their number is at least this.
+// "Bits 27:24 are the size": nothing but a comment claims more tokens behind its first one, and an instruction is judged by no more
+// than its first token and these.
+pub const MOST_CLAIMED: usize = 15;
+
+pub const MOST_SHOWN: usize = 16;
+
+// The open blocks are one number, a digit for each, the innermost lowest. No digit is 0, so that 0 says that none is open.
+const BASE: u64 = 5;
+
+const LOOP: u64 = 1;
+
+const REP: u64 = 2;
+
+const IF: u64 = 3;
+
+const PAST_ELSE: u64 = 4;
+
+// BASE to the 23rd: with 24 blocks open their number is at least this.
 const DEEPEST: u64 = 11_920_928_955_078_125;
 
 // What an instruction does to the open blocks: the walk goes on with these, is refused, or is at its end.
@@ -36,11 +48,11 @@ fn in_loop(kinds: u64) -> bool
 {
     let mut left = kinds;
     while left != 0 {
-        let kind = left % 5;
-        if (kind == 1) | (kind == 2) {
+        let kind = left % BASE;
+        if (kind == LOOP) | (kind == REP) {
             return true;
         }
-        left = left / 5;
+        left = left / BASE;
     }
     false
 }
@@ -71,9 +83,9 @@ fn open_in(kinds: u64, opener: Opener) -> Next
 {
     if kinds < DEEPEST {
         return match opener {
-            Opener::If => Next::Go(kinds * 5 + 3),
-            Opener::Loop => Next::Go(kinds * 5 + 1),
-            Opener::Rep => Next::Go(kinds * 5 + 2),
+            Opener::If => Next::Go(kinds * BASE + IF),
+            Opener::Loop => Next::Go(kinds * BASE + LOOP),
+            Opener::Rep => Next::Go(kinds * BASE + REP),
         };
     }
     Next::Bad(Reason::Depth)
@@ -82,17 +94,17 @@ fn open_in(kinds: u64, opener: Opener) -> Next
 fn close_in(kinds: u64, closer: Closer) -> Next
     ensures { λ r. ⌜ r ≡ closesBy kinds closer ⌝ }
 {
-    let innermost = kinds % 5;
+    let innermost = kinds % BASE;
     match closer {
         Closer::Else => {
-            if innermost == 3 {
-                return Next::Go(kinds + 1);
+            if innermost == IF {
+                return Next::Go(kinds + (PAST_ELSE - IF));
             }
             Next::Bad(Reason::Block)
         }
-        Closer::EndIf => go_if(2 < innermost, kinds / 5),
-        Closer::EndLoop => go_if(innermost == 1, kinds / 5),
-        Closer::EndRep => go_if(innermost == 2, kinds / 5),
+        Closer::EndIf => go_if((innermost == IF) | (innermost == PAST_ELSE), kinds / BASE),
+        Closer::EndLoop => go_if(innermost == LOOP, kinds / BASE),
+        Closer::EndRep => go_if(innermost == REP, kinds / BASE),
         Closer::End => {
             if kinds == 0 {
                 return Next::Finish;
@@ -102,9 +114,8 @@ fn close_in(kinds: u64, closer: Closer) -> Next
     }
 }
 
-// The open blocks as one number, a digit of base 5 for each, the innermost lowest: 1 LOOP, 2 REP, 3 IF, 4 IF past its ELSE.
-pub fn next_kinds(kinds: u64, class: Class) -> Next
-    ensures { λ r. ⌜ toldNext r ≡ toldNext (nextBy kinds class) ⌝ }
+fn next_kinds(kinds: u64, class: Class) -> Next
+    ensures { λ r. ⌜ r ≡ nextBy kinds class ⌝ }
 {
     match class {
         Class::One(single) => stand_in(kinds, single),
@@ -120,17 +131,37 @@ pub struct State {
     pub kinds: u64,
 }
 
-// A step of the walk: it goes on from here, is at its end, or is refused.
-pub enum Stepped {
-    On(State),
-    Done(State),
+// What a step of the walk answers: it goes on, is behind an END that finishes the stream, or is refused.
+pub enum Move {
+    On,
+    Done,
     Refused(Refusal),
 }
 
-fn refused(reason: Reason, position: usize) -> Stepped
-    ensures { λ r. ⌜ r ≡ Stepped.Refused (refusal reason position) ⌝ }
+// A step of the walk: its answer, and the state behind the instruction; of a refusal, the state before it.
+pub struct Step {
+    pub answer: Move,
+    pub state: State,
+}
+
+// The walk begins behind the version.
+pub fn start() -> State
+    ensures { λ r. ⌜ r ≡ begun ⌝ }
 {
-    Stepped::Refused(Refusal { reason, position })
+    State {
+        at: 1,
+        count: 0,
+        kinds: 0,
+    }
+}
+
+fn refused(reason: Reason, position: usize, state: State) -> Step
+    ensures { λ r. ⌜ r ≡ stepOf (Move.Refused (refusal reason position)) state ⌝ }
+{
+    Step {
+        answer: Move::Refused(Refusal { reason, position }),
+        state,
+    }
 }
 
 // "the number of instructions, comments and END not counted"
@@ -141,17 +172,11 @@ fn counted(class: Class, count: usize) -> usize
     match class {
         Class::One(single) => match single {
             Single::Comment => count,
-            Single::Plain => more,
-            Single::Break => more,
-            Single::Label => more,
-            Single::Return => more,
+            Single::Plain | Single::Break | Single::Label | Single::Return => more,
         },
         Class::Opens(_) => more,
         Class::Closes(closer) => match closer {
-            Closer::Else => more,
-            Closer::EndIf => more,
-            Closer::EndLoop => more,
-            Closer::EndRep => more,
+            Closer::Else | Closer::EndIf | Closer::EndLoop | Closer::EndRep => more,
             Closer::End => count,
         },
     }
@@ -167,43 +192,33 @@ fn behind_of(state: State, size: usize, class: Class, kinds: u64) -> State
 }
 
 // A good instruction, which the open blocks let stand, or do not.
-fn nested(state: State, size: usize, class: Class) -> Stepped
+fn nested(state: State, size: usize, class: Class) -> Step
     ensures { λ r. ⌜ r ≡ onNextBy (nextBy (state .kinds) class) state size class ⌝ }
 {
     let next = next_kinds(state.kinds, class);
     match next {
-        Next::Go(kinds) => Stepped::On(behind_of(state, size, class, kinds)),
-        Next::Bad(reason) => refused(reason, state.at),
-        Next::Finish => Stepped::Done(behind_of(state, size, class, state.kinds)),
+        Next::Go(kinds) => {
+            let behind = behind_of(state, size, class, kinds);
+            Step {
+                answer: Move::On,
+                state: behind,
+            }
+        }
+        Next::Bad(reason) => refused(reason, state.at, state),
+        Next::Finish => {
+            let behind = behind_of(state, size, class, state.kinds);
+            Step {
+                answer: Move::Done,
+                state: behind,
+            }
+        }
     }
 }
 
-// Whether what is told is a yes for an instruction that neither opens nor closes a block and may stand anywhere: an even number with
-// class 1, which stands doubled below the size.
-fn is_plain(told: u64) -> bool
-    ensures { λ r. ⌜ r ≡ eqb (told % 32) 2 ⌝ }
+// The step over an instruction of which this is told.
+fn moved(state: State, told: u64) -> Step
+    ensures { λ r. ⌜ r ≡ onJudged (judgedFrom told) state ⌝ }
 {
-    told % 32 == 2
-}
-
-// The state behind such an instruction.
-fn passed(at: usize, count: usize, kinds: u64, told: u64) -> Stepped
-    ensures { λ r. ⌜ r ≡ On (behindOf (stateOf at count kinds) (told / 32) (One Plain) kinds) ⌝ }
-{
-    let state = State { at, count, kinds };
-    Stepped::On(behind_of(
-        state,
-        (told / 32) as usize,
-        Class::One(Single::Plain),
-        kinds,
-    ))
-}
-
-// The state behind an instruction of which this is told. A state's fields come one by one: they stay in registers.
-fn moved(at: usize, count: usize, kinds: u64, told: u64) -> Stepped
-    ensures { λ r. ⌜ r ≡ onJudged (judgedFrom told) (stateOf at count kinds) ⌝ }
-{
-    let state = State { at, count, kinds };
     let judged = told::judged_of(told);
     match judged {
         Judged::Good(size, class) => nested(state, size, class),
@@ -212,25 +227,72 @@ fn moved(at: usize, count: usize, kinds: u64, told: u64) -> Stepped
             refused(
                 reason,
                 std::num::wrapping_add_usize(state.at, refusal.position),
+                state,
             )
         }
     }
 }
 
-// The step over an instruction of which this is told, from a state with these fields.
-pub fn step_told(at: usize, count: usize, kinds: u64, told: u64) -> Stepped
-    ensures { λ r. ⌜ toldStepped r ≡ toldStepped (onJudged (judgedFrom told) (stateOf at count kinds)) ⌝ }
+// Judges, moves and counts: from `state` on, which is at a place of these tokens, over plain instructions as long as the next one
+// begins before `stop`, and over the instruction at their end. Behind these tokens `beyond` more are there.
+pub fn pass(
+    version: Version,
+    state: State,
+    tokens: &[u32],
+    at: usize,
+    stop: usize,
+    beyond: usize,
+) -> Step
+    ensures { λ r. ⌜ Passes version (now (tokens .entry)) state at stop beyond (toldStep r) ⌝ }
 {
-    if is_plain(told) {
-        return passed(at, count, kinds, told);
-    }
-    moved(at, count, kinds, told)
+    let stretch = stretches::judge_stretch(version, tokens, at, stop, beyond);
+    let last = State {
+        at: std::num::wrapping_add_usize(state.at, stretch.at - at),
+        count: std::num::wrapping_add_usize(state.count, stretch.count),
+        kinds: state.kinds,
+    };
+    moved(last, stretch.told)
 }
 
-// The step over the instruction at a place of these tokens, behind which `beyond` more are there. It is at `state` of the walk.
-pub fn step_in(version: Version, state: State, tokens: &[u32], at: usize, beyond: usize) -> Stepped
-    ensures { λ r. ⌜ toldStepped r ≡ toldStepped (onJudged (judgedFrom (toldAt version (now (tokens .entry)) beyond at)) state) ⌝ }
+// Whether the walk goes on, and stands before this position.
+pub fn goes_on(step: Step, until: usize) -> bool
+    ensures { λ r. ⌜ r ≡ goesOn step until ⌝ }
 {
-    let told = stretches::judge_at(version, tokens, at, beyond);
-    step_told(state.at, state.count, state.kinds, told)
+    let answer = step.answer;
+    match answer {
+        Move::On => step.state.at < until,
+        Move::Done => false,
+        Move::Refused(_) => false,
+    }
+}
+
+fn refuse(reason: Reason, position: usize) -> Verdict
+    ensures { λ r. ⌜ r ≡ Verdict.Refused (refusal reason position) ⌝ }
+{
+    Verdict::Refused(Refusal { reason, position })
+}
+
+// Behind the END that finishes a stream of so many tokens.
+fn end_of(state: State, tokens: usize) -> Verdict
+    ensures { λ r. ⌜ r ≡ endOf state tokens ⌝ }
+{
+    if state.at < tokens {
+        return refuse(Reason::Tail, state.at);
+    }
+    Verdict::Accepted(state.count)
+}
+
+// The verdict of a stream of so many tokens, behind the last step of its walk.
+pub fn verdict_of(step: Step, tokens: usize) -> Verdict
+    ensures { λ r. ⌜ told r ≡ told (verdictOf step tokens) ⌝ }
+{
+    let answer = step.answer;
+    match answer {
+        Move::On => refuse(Reason::RunOut, tokens),
+        Move::Done => {
+            let state = step.state;
+            end_of(state, tokens)
+        }
+        Move::Refused(refusal) => Verdict::Refused(refusal),
+    }
 }

@@ -5,19 +5,10 @@ use borrow.Author.Needs.{needs}
 use Rattle.byte_checker.proofs.view_from.Statement.{statement}
 use Rattle.byte_checker.proofs.view_from.Tie as tie
 
-sub-left : tie.Need-sub-left
-sub-left c = search needs
-
 returns : tie.Need-returns
 returns c =
     let s = c .before in
     (refl, s .pre, c .if1 .taken, record { inside = omega (arith, s .pre); begins = omega (arith, s .pre); enough = inl (omega (arith, s .pre)) })
-
-sub-t5 : tie.Need-sub-t5
-sub-t5 c = search needs
-
-add-t6 : tie.Need-add-t6
-add-t6 c = search needs
 
 returns-2 : tie.Need-returns-2
 returns-2 c =
@@ -25,4 +16,11 @@ returns-2 c =
     (refl, omega arith, omega arith, record { inside = omega arith; begins = omega arith; enough = inr (omega arith) })
 
 pub view-from-spec : {M : Type 1} → statement M
-view-from-spec = tie.close (tie.spec sub-left returns sub-t5 add-t6 returns-2)
+view-from-spec =
+    tie.close
+    (tie.spec
+    (λ c. search needs)
+    returns
+    (λ c. search needs)
+    (λ c. search needs)
+    returns-2)

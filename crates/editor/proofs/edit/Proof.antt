@@ -10,29 +10,11 @@ use borrow.Author.Needs.{needs}
 use Rattle.editor.proofs.edit.Statement.{statement}
 use Rattle.editor.proofs.edit.Tie as tie
 
-refused-requires : tie.Need-refused-requires
-refused-requires c κs = search needs
-
 returns : tie.Need-returns
 returns c =
     let g = c .before .before .before .before .args in
     let is = not-held (g .buffer .now) (g .n) (g .i) (g .j) (g .run .now) (omega arith) in
     (ap toldEdit (c .refused .ensures ∙ sym is), sym (refused-keeps (g .buffer .now) (g .n) (g .i) (g .j) (g .run .now) (refusal LENGTH 0) is))
-
-slice-reshare-prefix-edit-stream : tie.Need-slice-reshare-prefix-edit-stream
-slice-reshare-prefix-edit-stream c = search needs
-
-slice-aggregate-edit-stream : tie.Need-slice-aggregate-edit-stream
-slice-aggregate-edit-stream c = let g = c .before .before .before .before .args in sym (length-take-le (g .n) (g .buffer .now) (omega arith))
-
-edit-stream-requires : tie.Need-edit-stream-requires
-edit-stream-requires c κs = search needs
-
-enum-known-answer : tie.Need-enum-known-answer
-enum-known-answer c = search needs
-
-same-length : tie.Need-same-length
-same-length c = search needs
 
 returns-2 : tie.Need-returns-2
 returns-2 c =
@@ -40,12 +22,6 @@ returns-2 c =
     let is =
     held (g .buffer .now) (g .n) (g .i) (g .j) (g .run .now) (omega arith) ∙ sym (c .before .before .before .edit-stream .ensures) ∙ c .before .answer .given .1 in
     (ap toldEdit (sym is), sym (refused-keeps (g .buffer .now) (g .n) (g .i) (g .j) (g .run .now) (c .before .answer .given .0 .0) is))
-
-splice-in-requires : tie.Need-splice-in-requires
-splice-in-requires c κs = search needs
-
-same-length-2 : tie.Need-same-length-2
-same-length-2 c = search needs
 
 returns-3 : tie.Need-returns-3
 returns-3 c =
@@ -58,14 +34,14 @@ pub edit-spec : {M : Type 1} → statement M
 edit-spec =
     tie.close
     (tie.spec
-    refused-requires
+    (λ c κs. search needs)
     returns
-    slice-reshare-prefix-edit-stream
-    slice-aggregate-edit-stream
-    edit-stream-requires
-    enum-known-answer
-    same-length
+    (λ c. search needs)
+    (λ c. let g = c .before .before .before .before .args in sym (length-take-le (g .n) (g .buffer .now) (omega arith)))
+    (λ c κs. search needs)
+    (λ c. search needs)
+    (λ c. search needs)
     returns-2
-    splice-in-requires
-    same-length-2
+    (λ c κs. search needs)
+    (λ c. search needs)
     returns-3)

@@ -5,18 +5,6 @@ use borrow.Author.Needs.{needs}
 use Rattle.editor.proofs.edit_placed.Statement.{statement}
 use Rattle.editor.proofs.edit_placed.Tie as tie
 
-sub-kept : tie.Need-sub-kept
-sub-kept c = search needs
-
-sub-kept-2 : tie.Need-sub-kept-2
-sub-kept-2 c = search needs
-
-sub-if1 : tie.Need-sub-if1
-sub-if1 c = search needs
-
-refused-requires : tie.Need-refused-requires
-refused-requires c κs = search needs
-
 returns : tie.Need-returns
 returns c =
     let s = c .before .before .before .before .before .before in
@@ -26,12 +14,6 @@ returns c =
     let i = b .inside in
     c .refused .ensures ∙ sym (too-long (g .version) (g .old .now) (g .room) (g .first .at) (g .last .at) (g .run .now) (omega arith))
 
-add-if2 : tie.Need-add-if2
-add-if2 c = search needs
-
-refused-requires-2 : tie.Need-refused-requires-2
-refused-requires-2 c κs = search needs
-
 returns-2 : tie.Need-returns-2
 returns-2 c =
     let s = c .before .before .before .before .before .before .before in
@@ -40,9 +22,6 @@ returns-2 c =
     let o = b .order in
     let i = b .inside in
     c .refused2 .ensures ∙ sym (no-room (g .version) (g .old .now) (g .room) (g .first .at) (g .last .at) (g .run .now) (omega arith))
-
-walk-spliced-requires : tie.Need-walk-spliced-requires
-walk-spliced-requires c κs = search needs
 
 returns-3 : tie.Need-returns-3
 returns-3 c =
@@ -57,13 +36,13 @@ pub edit-placed-spec : {M : Type 1} → statement M
 edit-placed-spec =
     tie.close
     (tie.spec
-    sub-kept
-    sub-kept-2
-    sub-if1
-    refused-requires
+    (λ c. search needs)
+    (λ c. search needs)
+    (λ c. search needs)
+    (λ c κs. search needs)
     returns
-    add-if2
-    refused-requires-2
+    (λ c. search needs)
+    (λ c κs. search needs)
     returns-2
-    walk-spliced-requires
+    (λ c κs. search needs)
     returns-3)

@@ -1,112 +1,51 @@
-use mathlib.Core.Path.{sym}
+use Prim.Native.Nat.{ℕ, suc}
+use mathlib.Core.Path.{_≡_, refl, sym}
+use mathlib.Core.List.{[], _∷_}
+use mathlib.Core.Logic.{⊎-elim}
 use native.Mathlib.Nat.{mod-eq-of-lt}
 use native.Mathlib.Numerals.{add-one}
 use native.Mathlib.Omega.{arith}
+use types.Run.{OneOf}
+use denote.Enum.Declared.{tagOf}
+use Rattle.paper.specs.Walk.{counts}
+use Rattle.paper.specs.declared.Class.the-variants.{One, Closes}
+use Rattle.paper.specs.declared.Single.{Single}
+use Rattle.paper.specs.declared.Single.the-variants.{Comment, Plain, Break, Label, Return}
+use Rattle.paper.specs.declared.Closer.{Closer}
+use Rattle.paper.specs.declared.Closer.the-variants.{Else, EndIf, EndLoop, EndRep, End}
+use Rattle.paper.proofs.Single.{the-type as single}
+use Rattle.paper.proofs.Closer.{the-type as closer}
 use borrow.Author.Needs.{needs}
 use Rattle.walk.proofs.counted.Statement.{statement}
 use Rattle.walk.proofs.counted.Tie as tie
 
-wrapping-add-usize-requires : tie.Need-wrapping-add-usize-requires
-wrapping-add-usize-requires c κs = search needs
+-- every single instruction but a comment, and every closer but END
+single-counts : (s : Single) (n : ℕ) → OneOf (1 ∷ 2 ∷ 3 ∷ 4 ∷ []) (tagOf single s) → counts (One s) n ≡ suc n
+single-counts Comment n h = absurd (⊎-elim (λ e. omega arith) (⊎-elim (λ e. omega arith) (⊎-elim (λ e. omega arith) (λ e. omega arith))) h)
+single-counts Plain n h = refl
+single-counts Break n h = refl
+single-counts Label n h = refl
+single-counts Return n h = refl
 
-enum-known-class : tie.Need-enum-known-class
-enum-known-class c = search needs
-
-enum-told : tie.Need-enum-told
-enum-told c = search needs
-
-enum-told-2 : tie.Need-enum-told-2
-enum-told-2 c = search needs
-
-enum-told-3 : tie.Need-enum-told-3
-enum-told-3 c = search needs
-
-enum-told-4 : tie.Need-enum-told-4
-enum-told-4 c = search needs
-
-enum-told-5 : tie.Need-enum-told-5
-enum-told-5 c = search needs
-
-enum-told-6 : tie.Need-enum-told-6
-enum-told-6 c = search needs
-
-enum-known-class-2 : tie.Need-enum-known-class-2
-enum-known-class-2 c = search needs
-
-enum-told-7 : tie.Need-enum-told-7
-enum-told-7 c = search needs
-
-enum-told-8 : tie.Need-enum-told-8
-enum-told-8 c = search needs
-
-enum-told-9 : tie.Need-enum-told-9
-enum-told-9 c = search needs
-
-enum-told-10 : tie.Need-enum-told-10
-enum-told-10 c = search needs
-
-enum-told-11 : tie.Need-enum-told-11
-enum-told-11 c = search needs
-
-returns : tie.Need-returns
-returns c = simp (c .enum-told .given .1, c .before .before .before .class .given .1) (sym (mod-eq-of-lt (omega arith)))
-
-returns-2 : tie.Need-returns-2
-returns-2 c = simp (c .enum-told2 .given .1, c .before .before .before .class .given .1, c .before .before .before .before .before .wrapping-add-usize .ensures, add-one)
-
-returns-3 : tie.Need-returns-3
-returns-3 c = simp (c .enum-told3 .given .1, c .before .before .before .class .given .1, c .before .before .before .before .before .wrapping-add-usize .ensures, add-one)
-
-returns-4 : tie.Need-returns-4
-returns-4 c = simp (c .enum-told4 .given .1, c .before .before .before .class .given .1, c .before .before .before .before .before .wrapping-add-usize .ensures, add-one)
-
-returns-5 : tie.Need-returns-5
-returns-5 c = simp (c .enum-told5 .given .1, c .before .before .before .class .given .1, c .before .before .before .before .before .wrapping-add-usize .ensures, add-one)
-
-returns-6 : tie.Need-returns-6
-returns-6 c = simp (c .enum-told6 .given .1, c .before .before .wrapping-add-usize .ensures, add-one)
-
-returns-7 : tie.Need-returns-7
-returns-7 c = simp (c .enum-told7 .given .1, c .before .before .before .class2 .given .1, c .before .before .before .before .before .wrapping-add-usize .ensures, add-one)
-
-returns-8 : tie.Need-returns-8
-returns-8 c = simp (c .enum-told8 .given .1, c .before .before .before .class2 .given .1, c .before .before .before .before .before .wrapping-add-usize .ensures, add-one)
-
-returns-9 : tie.Need-returns-9
-returns-9 c = simp (c .enum-told9 .given .1, c .before .before .before .class2 .given .1, c .before .before .before .before .before .wrapping-add-usize .ensures, add-one)
-
-returns-10 : tie.Need-returns-10
-returns-10 c = simp (c .enum-told10 .given .1, c .before .before .before .class2 .given .1, c .before .before .before .before .before .wrapping-add-usize .ensures, add-one)
-
-returns-11 : tie.Need-returns-11
-returns-11 c = simp (c .enum-told11 .given .1, c .before .before .before .class2 .given .1) (sym (mod-eq-of-lt (omega arith)))
+closer-counts : (c : Closer) (n : ℕ) → OneOf (0 ∷ 1 ∷ 2 ∷ 3 ∷ []) (tagOf closer c) → counts (Closes c) n ≡ suc n
+closer-counts Else n h = refl
+closer-counts EndIf n h = refl
+closer-counts EndLoop n h = refl
+closer-counts EndRep n h = refl
+closer-counts End n h = absurd (⊎-elim (λ e. omega arith) (⊎-elim (λ e. omega arith) (⊎-elim (λ e. omega arith) (λ e. omega arith))) h)
 
 pub counted-spec : {M : Type 1} → statement M
 counted-spec =
     tie.close
     (tie.spec
-    wrapping-add-usize-requires
-    enum-known-class
-    enum-told
-    enum-told-2
-    enum-told-3
-    enum-told-4
-    enum-told-5
-    enum-told-6
-    enum-known-class-2
-    enum-told-7
-    enum-told-8
-    enum-told-9
-    enum-told-10
-    enum-told-11
-    returns
-    returns-2
-    returns-3
-    returns-4
-    returns-5
-    returns-6
-    returns-7
-    returns-8
-    returns-9
-    returns-10
-    returns-11)
+    (λ c κs. search needs)
+    (λ c. search needs)
+    (λ c. search needs)
+    (λ c. search needs)
+    (λ c. search needs)
+    (λ c. search needs)
+    (λ c. simp (c .enum-told .given .1, c .before .before .before .class .given .1) (sym (mod-eq-of-lt (omega arith))))
+    (λ c. simp (c .before .before .class .given .1, single-counts (c .before .before .class .given .0 .0) (c .before .before .before .before .before .args .count) (c .match2 .keys2), c .before .before .before .before .wrapping-add-usize .ensures, add-one))
+    (λ c. simp (c .enum-told2 .given .1, c .before .before .wrapping-add-usize .ensures, add-one))
+    (λ c. simp (c .before .before .class2 .given .1, closer-counts (c .before .before .class2 .given .0 .0) (c .before .before .before .before .before .args .count) (c .match3 .keys1), c .before .before .before .before .wrapping-add-usize .ensures, add-one))
+    (λ c. simp (c .enum-told3 .given .1, c .before .before .before .class2 .given .1) (sym (mod-eq-of-lt (omega arith)))))

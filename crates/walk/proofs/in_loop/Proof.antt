@@ -12,16 +12,10 @@ Inv-loop kinds left₀ left = (left ≤ kinds) × (inLoopBy left ≡ inLoopBy ki
 abbrev μ-loop : tie.MeasureT-loop
 μ-loop kinds left₀ left = left
 
-loop-holds : tie.Need-loop-holds Inv-loop μ-loop
-loop-holds c = (omega arith, refl)
-
 returns : tie.Need-returns Inv-loop μ-loop
 returns c =
     let l = c .before .before .loop in
     sym (loop-first (l .left) (c .before .loop-test .taken) ∙ rw (c .if1 .taken) refl) ∙ l .inv .1
-
-loop-less : tie.Need-loop-less Inv-loop μ-loop
-loop-less c = omega arith
 
 loop-again : tie.Need-loop-again Inv-loop μ-loop
 loop-again c =
@@ -35,4 +29,12 @@ returns-2 c =
 
 pub in-loop-spec : {M : Type 1} → statement M
 in-loop-spec =
-    tie.close (tie.spec Inv-loop μ-loop loop-holds returns loop-less loop-again returns-2)
+    tie.close
+    (tie.spec
+    Inv-loop
+    μ-loop
+    (λ c. (omega arith, refl))
+    returns
+    (λ c. omega arith)
+    loop-again
+    returns-2)
