@@ -1,5 +1,4 @@
 pub mod OpenBlocks
-pub mod Bounds
 pub mod OnStream
 pub mod Comes
 pub mod Telling

@@ -24,6 +24,8 @@ use Rattle.paper.specs.declared.Reason.the-variants.{RunOut as RUN-OUT, Tail as
 use Rattle.paper.specs.declared.Judged.{Judged}
 use Rattle.paper.specs.declared.Judged.the-variants.{Good, Refused as unfit}
 use Rattle.paper.specs.declared.Verdict.the-variants.{Accepted, Refused as no-verdict}
+use Rattle.paper.proofs.OwnTokens.{good-inside}
+use Rattle.paper.proofs.OneInstruction.{judged-near}
 use Rattle.blocks.specs.Reach.{here, past}
 use Rattle.blocks.proofs.Cutting.{cut-none, cut-at}
 use Rattle.blocks.proofs.Reach.{reached, reaches-on}
@@ -35,7 +37,6 @@ use Rattle.walk.specs.Kinds.{kindsNumber, numbered, nextBy}
 use Rattle.walk.specs.Steps.{wrapped, begun, behindOf, stepOf, onNextBy, onJudged}
 use Rattle.walk.specs.Stands.{Stands, stepAt, Comes}
 use Rattle.walk.proofs.OpenBlocks.{next-is, step-few}
-use Rattle.walk.proofs.Bounds.{judged-near, judged-in}
 
 -- what an instruction adds to a count
 
@@ -97,9 +98,7 @@ module _ (v : Version) (s : List ℕ) (state : State) (h : Stands v s state) (lt
     cut-good = cut-at v s (state .at) lt ∙ rw e
 
     size-in : size < length s - state .at
-    size-in =
-        let some : 0 < length (drop (state .at) s) = omega (arith, length-drop (state .at) s) in
-        omega (arith, rw e at (judged-in v (drop (state .at) s) some), length-drop (state .at) s)
+    size-in = omega (arith, good-inside size class v s (state .at) e)
 
     behind-is : (kinds : ℕ) → stateAt (state .at + suc size) (counts class (state .count)) kinds ≡ behindOf state size class kinds
     behind-is kinds =
@@ -152,8 +151,7 @@ module _ (v : Version) (s : List ℕ) (state : State) (h : Stands v s state) (lt
   unfolding nesting
   comes-judged (Good size class) e = rw (next-said size class e) (comes-next size class e (step (h .opened) class) refl)
   comes-judged (unfit q) e =
-      let some : 0 < length (drop (state .at) s) = omega (arith, length-drop (state .at) s) in
-      let near : q .position < length (drop (state .at) s) = rw e at (judged-near v (drop (state .at) s) some) in
+      let near : q .position ≤ length (drop (state .at) s) - 1 = rw e at (judged-near v (drop (state .at) s)) in
       let at : wrapped (state .at + q .position) ≡ state .at + q .position = mod-eq-of-lt (omega (arith, near, length-drop (state .at) s)) in
       let cut : cutFrom v s (state .at) ≡ wrong (state .at) (refusal (q .reason) (state .at + q .position)) = cut-at v s (state .at) lt ∙ rw e in
       rw at (sym (stands-verdict v s state h ∙ rw cut))
