@@ -30,12 +30,12 @@ use Rattle.paper.specs.declared.Judged.the-variants.{Good, Refused as Unfit}
 use Rattle.paper.specs.declared.Reason.the-variants.{Opcode as OPCODE, Bits as BITS, Size as SIZE, Operand as OPERAND}
 use Rattle.paper.specs.Places.{Entry, absent, listed, entryOf}
 use Rattle.opcodes.specs.Classes.{classNumber}
-use Rattle.opcodes.specs.Shape.{shapeOf}
+use Rattle.opcodes.specs.Shape.{shapeOf, classIn}
 use Rattle.opcodes.proofs.Shapes.{shape-absent, shape-class}
 use Rattle.opcodes.proofs.Table.{beyond}
 use Rattle.instruction_token.specs.declared.Head.{Head}
 use Rattle.instruction_token.specs.declared.Head.the-variants.{Refused, End, Comment, Declaration, Operation}
-use Rattle.instruction_token.specs.Encoded.{encoded, classIn, bitsBy, placesBy, headBy}
+use Rattle.instruction_token.specs.Encoded.{encoded, bitsBy, placesBy, headBy}
 use Rattle.instruction_token.proofs.Heads.{head-comment, head-end, head-other}
 use Rattle.instruction.specs.Claimed.{listedIn}
 use Rattle.instruction.specs.Shown.{roomFor, judgedWith, judgedIn, unlistedIn}

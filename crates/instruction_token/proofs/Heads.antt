@@ -15,7 +15,7 @@ use Rattle.paper.specs.InstructionToken.{opcodeOf, controlsOf, statedSize, isPr
 use Rattle.paper.specs.Instruction.{Head as Said, broken, end, comment, dcl, operation, headOf, tokenHead}
 use Rattle.paper.specs.declared.Version.{Version}
 use Rattle.places.specs.Places.{numberBy, decoded}
-use Rattle.opcodes.specs.Shape.{shapeOf}
+use Rattle.opcodes.specs.Shape.{shapeOf, ruleIn}
 use Rattle.places.specs.Places.{digits}
 use Rattle.opcodes.proofs.Shapes.{shape-absent, shape-zero, shape-places, shape-step, shape-rule, decoded-digits, decoded-predicated}
 use Rattle.places.proofs.Decoding.{without-predicate, digits-predicated}
@@ -23,7 +23,7 @@ use Rattle.paper.specs.declared.Reason.the-variants.{Bits as BITS}
 use Rattle.paper.proofs.Below.{both-left, both-right}
 use Rattle.paper.specs.Places.{Entry, absent, listed, entryOf, Place, predicate}
 use Rattle.instruction_token.specs.declared.Head.the-variants.{Refused, End, Comment}
-use Rattle.instruction_token.specs.Encoded.{encoded, hasZeros, ruleIn, controlsBy, bitsBy, placesBy, headBy}
+use Rattle.instruction_token.specs.Encoded.{encoded, hasZeros, controlsBy, bitsBy, placesBy, headBy}
 
 encoded-pick : (b : Bool) (x y : Said) → encoded (pick b x y) ≡ pick b (encoded x) (encoded y)
 encoded-pick true x y = refl

@@ -8,6 +8,7 @@ use Rattle.paper.specs.OpcodeTable.{DCL}
 use Rattle.paper.specs.InstructionToken.{opcodeOf, controlsOf, statedSize, isPredicated}
 use Rattle.paper.specs.Instruction.{Head as Said, broken, end, comment, dcl, operation}
 use Rattle.places.specs.Places.{numberBy}
+use Rattle.opcodes.specs.Shape.{ruleIn, stepIn}
 use Rattle.places.specs.Places.{digits}
 use Rattle.paper.specs.declared.Reason.the-variants.{Opcode as OPCODE, Bits as BITS}
 use Rattle.paper.specs.Places.{predicate}
@@ -49,17 +50,8 @@ abbrev pub controlsBy : ℕ → ℕ → Bool
 controlsBy rule controls =
     pick (eqb rule 0) (eqb controls 0) (pick (eqb rule 2) (leb controls 2) (leb 1 controls && leb controls 6))
 
-abbrev pub ruleIn : ℕ → ℕ
-ruleIn shape = shape / 2 ^ 38 % 4
-
-abbrev pub classIn : ℕ → ℕ
-classIn shape = shape / 2 ^ 41
-
 abbrev pub hasZeros : ℕ → Bool
 hasZeros token = eqb (token / 2 ^ 28) 0 && eqb (controlsOf token) 0
-
-abbrev pub stepIn : ℕ → ℕ
-stepIn shape = shape / 2 ^ 35 % 8
 
 unfoldable pub bitsBy : ℕ → ℕ → Bool
 bitsBy shape token =
