@@ -11,7 +11,7 @@ use Rattle.paper.specs.declared.Operands.{Operands}
 use Rattle.paper.specs.declared.Operands.the-variants.{Fit, Refused as unfit}
 use Rattle.opcodes.specs.Classes.{classNumber}
 use Rattle.told.specs.Numbered.{judgedNumber}
-use Rattle.operands.specs.Numbered.{operandsNumber}
+use Rattle.told.specs.Numbered.{operandsNumber}
 
 -- operands of which 0 is told take an instruction's tokens
 pub operands-number : (o : Operands) (told size : ℕ) (class : Class) → told ≡ operandsNumber o → told ≡ 0 →

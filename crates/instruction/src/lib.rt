@@ -8,7 +8,7 @@ ghost use Rattle.paper.specs.Blocks.{classOf};
 ghost use Rattle.paper.specs.Dcl.{declaration};
 ghost use Rattle.opcodes.specs.Classes.{classNumber};
 ghost use Rattle.opcodes.specs.Shape.{classIn};
-ghost use Rattle.operands.specs.Numbered.{operandsNumber};
+ghost use Rattle.told.specs.Numbered.{operandsNumber};
 ghost use Rattle.told.specs.Numbered.{judgedNumber};
 ghost use Rattle.instruction.specs.Claimed.{operandsBy, listedIn};
 ghost use Rattle.instruction.specs.Shown.{judgedIn, unlistedIn};

@@ -1,8 +1,10 @@
 -- What a number of specs/Numbered.antt tells, told back.
-use mathlib.Core.Path.{_≡_, refl}
-use Prim.Native.Nat.{_+_, _*_, _/_, _%_, _<_}
+use mathlib.Core.Path.{_≡_, refl, ap}
+use mathlib.Core.Bool.{true, false}
+use Prim.Native.Nat.{ℕ, _+_, _*_, _/_, _%_, _<_}
 use native.Mathlib.Omega.{arith}
 use lib.Dec.{lit<}
+use borrow.Author.Tests.{eqb-true, eqb-false}
 use Rattle.paper.specs.Numbers.{numberOf}
 use Rattle.paper.specs.declared.Reason.{Reason}
 use Rattle.paper.specs.declared.Reason.the-variants.{Length, Version, Opcode, Bits, RunOut, Size, Operand, Register, Block, Depth, Tail, Place, Room, Record}
@@ -11,11 +13,14 @@ use Rattle.paper.specs.declared.Opener.the-variants.{If, Loop, Rep}
 use Rattle.paper.specs.declared.Closer.the-variants.{Else, EndIf, EndLoop, EndRep, End}
 use Rattle.paper.specs.declared.Class.{Class}
 use Rattle.paper.specs.declared.Class.the-variants.{One, Opens, Closes}
+use Rattle.paper.specs.declared.Refusal.{Refusal}
+use Rattle.paper.specs.declared.Taken.{Taken}
+use Rattle.paper.specs.declared.Taken.the-variants.{Took, Refused as not-taken}
 use Rattle.paper.specs.declared.Judged.{Judged}
 use Rattle.paper.specs.declared.Judged.the-variants.{Good, Refused}
 use Rattle.opcodes.specs.Classes.{classNumber}
 use Rattle.opcodes.proofs.Shapes.{class-few}
-use Rattle.told.specs.Numbered.{classBy, reasonBy, judgedNumber, judgedFrom}
+use Rattle.told.specs.Numbered.{refusalNumber, takenNumber, isRefusal, takenIn, classBy, reasonBy, judgedNumber, judgedFrom}
 
 pub number-few : (r : Reason) → numberOf r < 16
 number-few Length = lit< tt
@@ -32,6 +37,15 @@ number-few Tail = lit< tt
 number-few Place = lit< tt
 number-few Room = lit< tt
 number-few Record = lit< tt
+
+-- an even number tells how many tokens an operand takes, an odd one its refusal
+pub taken-even : (t : Taken) (n : ℕ) → n ≡ takenNumber t → isRefusal n ≡ false → t ≡ Took (takenIn n)
+taken-even (Took m) n e even = ap Took (omega arith)
+taken-even (not-taken r) n e even = absurd (omega (arith, eqb-false (n % 2) 1 even))
+
+pub taken-odd : (t : Taken) (n : ℕ) → n ≡ takenNumber t → isRefusal n ≡ true → (r : Refusal) × (t ≡ not-taken r) × (n ≡ refusalNumber r)
+taken-odd (Took m) n e odd = absurd (omega (arith, eqb-true (n % 2) 1 odd))
+taken-odd (not-taken r) n e odd = (r, refl, e)
 
 class-back : (c : Class) → classBy (classNumber c) ≡ c
 class-back (One Comment) = refl

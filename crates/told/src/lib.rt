@@ -1,7 +1,7 @@
-// What is told of an instruction, one number, made and read back: a yes is even, a refusal odd. No other crate knows what its bits are.
+// What is told of an instruction and of its operands, one number, made and read back: a yes is even, a refusal odd. No other crate knows what its bits are.
 ghost use mathlib.Core.Path.{_≡_};
 ghost use Rattle.paper.specs.Numbers.{toldInstruction};
-ghost use Rattle.told.specs.Numbered.{yesNumber, faultNumber, isRefusal, sizeIn, isPlain, classBy, reasonBy, judgedFrom};
+ghost use Rattle.told.specs.Numbered.{yesNumber, faultNumber, isRefusal, takenIn, sizeIn, isPlain, classBy, reasonBy, judgedFrom};
 use paper::Class;
 use paper::Closer;
 use paper::Judged;
@@ -19,6 +19,13 @@ const WHOLE: u64 = HALF * KINDS;
 
 // The class of a plain instruction, as a yes of any size has it.
 const PLAIN: u64 = HALF;
+
+// Operands that fit; an operand that takes one token, and one that takes two.
+pub const FIT: u64 = 0;
+
+pub const ONE_TAKEN: u64 = HALF;
+
+pub const TWO_TAKEN: u64 = 2 * HALF;
 
 // A yes: so many tokens behind the first, and the number of a class.
 pub fn yes(size: u32, class: u32) -> u64
@@ -38,6 +45,13 @@ pub fn is_refused(told: u64) -> bool
     ensures { λ r. ⌜ r ≡ isRefusal told ⌝ }
 {
     told % HALF == 1
+}
+
+// How many tokens an operand takes.
+pub fn taken_of(told: u64) -> usize
+    ensures { λ r. ⌜ r ≡ takenIn told ⌝ }
+{
+    (told / HALF) as usize
 }
 
 // Whether it is a yes for an instruction that neither opens nor closes a block and may stand anywhere.
