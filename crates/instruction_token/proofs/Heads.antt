@@ -10,7 +10,7 @@ use lib.ListN.{length}
 use borrow.Author.Tests.{eq-eqb, ne-eqb, eqb-true, eqb-false}
 use Rattle.paper.specs.Notation.{pick, among, bits, bit}
 use Rattle.paper.specs.OpcodeTable.{DCL, DEF, DEFI, DEFB, IFC, BREAKC, SETP, TEX}
-use Rattle.paper.specs.Versions.{isThird}
+use Rattle.paper.specs.Versions.{hasPredicates}
 use Rattle.paper.specs.InstructionToken.{opcodeOf, controlsOf, statedSize, isPredicated, commentOpcode, commentLength, commentLaid, endOpcode, endToken, hasDestination, mayBePredicated, withPredicate, controlsLaid, bitsLaid}
 use Rattle.paper.specs.Instruction.{Head as Said, broken, end, comment, dcl, operation, headOf, tokenHead}
 use Rattle.paper.specs.declared.Version.{Version}
@@ -84,7 +84,7 @@ module _ (v : Version) (token : ℕ) (places : List Place) (e : entryOf v (opcod
   unfolding bitsBy
   bits-by =
       let destined : mayBePredicated v (opcodeOf token) places ≡ true → hasDestination places ≡ true
-      = needs-destination (isThird v) (hasDestination places) (not (among (opcodeOf token) (DCL ∷ DEF ∷ DEFI ∷ DEFB ∷ []))) in
+      = needs-destination (hasPredicates v) (hasDestination places) (not (among (opcodeOf token) (DCL ∷ DEF ∷ DEFI ∷ DEFB ∷ []))) in
       rw (
         shape-rule v (opcodeOf token) places e,
         shape-step v (opcodeOf token) places e,

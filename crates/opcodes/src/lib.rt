@@ -3,7 +3,7 @@ mod rows;
 
 ghost use mathlib.Core.Path.{_≡_};
 ghost use Rattle.opcodes.specs.Shape.{shapeOf, placesField, stepIn, ruleIn, classIn};
-ghost use Rattle.opcodes.specs.Rows.{rank, rowOf};
+ghost use Rattle.opcodes.specs.Rows.{rowOf};
 use paper::Version;
 
 // The row of an opcode; 0 for one that is in no row. One arm for each opcode: only so does it become one table in memory.
@@ -77,32 +77,22 @@ fn row_of(opcode: u32) -> u64
     }
 }
 
-fn rank_of(version: Version) -> u32
-    ensures { λ r. ⌜ r ≡ rank version ⌝ }
-{
-    match version {
-        Version::V2 => 0,
-        Version::V3 => 1,
-        Version::P2 => 2,
-        Version::P3 => 3,
-    }
-}
-
 // The shape of an opcode in a version; 0 where the table does not list it there.
 pub fn shape_of(version: Version, opcode: u32) -> u64
     ensures { λ r. ⌜ r ≡ shapeOf version opcode ⌝ }
 {
-    let rank = rank_of(version);
+    let rank = versions::rank_of(version);
+    let predicates = versions::has_predicates(version);
     let row = row_of(opcode);
     if (row >> rank) % 2 == 0 {
         // SINCOS: "DSSS; in V3 P3 DS"
-        if (opcode == 37) & (rank % 2 == 1) {
+        if (opcode == 37) & ((rows::SINCOS_THIRD >> rank) % 2 == 1) {
             return rows::SINCOS_THIRD / rows::SHAPE;
         }
         return 0;
     }
     let shape = row / rows::SHAPE;
-    if rank % 2 == 1 {
+    if predicates {
         return shape;
     }
     // "predicated: only V3 and P3": the step is left out

@@ -11,7 +11,7 @@ use Rattle.paper.specs.Notation.{pick, bit, bits}
 use Rattle.paper.specs.OpcodeTable.{DCL, rows}
 use Rattle.paper.specs.InstructionToken.{opcodeOf, controlsOf, controlsLaid, hasDestination, statedSize, isPredicated, bitsLaid, commentOpcode, commentLength, commentLaid, endOpcode, endToken, withPredicate}
 use Rattle.paper.specs.Instruction.{Head, broken, end, comment, dcl, operation, headOf, tokenHead}
-use Rattle.paper.specs.Versions.{isThird}
+use Rattle.paper.specs.Versions.{hasPredicates}
 use Rattle.paper.specs.declared.Version.{Version}
 use Rattle.paper.specs.declared.Version.the-variants.{V2, V3, P2, P3}
 use Rattle.paper.specs.declared.Reason.the-variants.{Bits as BITS}
@@ -81,7 +81,7 @@ module _ (v : Version) (token : ℕ) where
 
   dcl-unpredicated : (places : List Place) → bitsLaid v token places ≡ true → opcodeOf token ≡ DCL → isPredicated token ≡ false
   dcl-unpredicated places laid d =
-      let none : bit 28 token ≡ 0 = eqb-true _ _ (only-zero (eqb (bits 31 29 token) 0) (controlsLaid DCL (controlsOf token)) (eqb (bit 28 token) 0) (isThird v) (hasDestination places) (rw d at laid)) in
+      let none : bit 28 token ≡ 0 = eqb-true _ _ (only-zero (eqb (bits 31 29 token) 0) (controlsLaid DCL (controlsOf token)) (eqb (bit 28 token) 0) (hasPredicates v) (hasDestination places) (rw d at laid)) in
       zero-not-one (bit 28 token) none
 
   module _ (no-comment : eqb (opcodeOf token) commentOpcode ≡ false) (no-end : eqb (opcodeOf token) endOpcode ≡ false) where

@@ -1,31 +1,16 @@
-use mathlib.Core.Path.{sym, _∙_}
-use borrow.Author.Tests.{eq-eqb, ne-eqb}
-use Rattle.versions.proofs.Types.{condition-type}
 use borrow.Author.Needs.{needs}
+use Rattle.versions.proofs.Types.{condition-types}
 use Rattle.versions.proofs.condition_typed.Statement.{statement}
 use Rattle.versions.proofs.condition_typed.Tie as tie
 
-type-of-requires : tie.Need-type-of-requires
-type-of-requires c κs = search needs
+condition-types-requires : tie.Need-condition-types-requires
+condition-types-requires c κs = search needs
+
+type-in-requires : tie.Need-type-in-requires
+type-in-requires c κs = search needs
 
 returns : tie.Need-returns
-returns c =
-    let g = c .before .before .args in
-    rw (← (c .before .type-of .ensures .0)) (sym (condition-type (g .version) (c .before .type-of .result) ∙ simp (eq-eqb _ _ (c .if1 .taken))))
-
-is-third-requires : tie.Need-is-third-requires
-is-third-requires c κs = search needs
-
-returns-2 : tie.Need-returns-2
-returns-2 c =
-    let g = c .before .before .before .before .args in
-    rw (← (c .before .before .before .type-of .ensures .0)) (sym (condition-type (g .version) (c .before .before .before .type-of .result) ∙ simp (ne-eqb _ _ (c .before .before .if1 .left), eq-eqb _ _ (c .before .if2 .taken), c .is-third .ensures)))
-
-returns-3 : tie.Need-returns-3
-returns-3 c =
-    let g = c .before .before .before .args in
-    rw (← (c .before .before .type-of .ensures .0)) (sym (condition-type (g .version) (c .before .before .type-of .result) ∙ simp (ne-eqb _ _ (c .before .if1 .left), ne-eqb _ _ (c .if2 .left))))
+returns c = rw (c .type-in .ensures, c .before .condition-types .ensures, condition-types _ _)
 
 pub condition-typed-spec : {M : Type 1} → statement M
-condition-typed-spec =
-    tie.close (tie.spec type-of-requires returns is-third-requires returns-2 returns-3)
+condition-typed-spec = tie.close (tie.spec condition-types-requires type-in-requires returns)
