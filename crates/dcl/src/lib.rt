@@ -1,61 +1,14 @@
 // The operands of DCL: document 01, "DCL".
 ghost use mathlib.Core.Path.{_≡_};
-ghost use Rattle.paper.specs.Notation.{pick};
-ghost use Rattle.paper.specs.Numbers.{toldOperands};
-ghost use Rattle.paper.specs.OperandTokens.{typeOf, refusedOperands};
-ghost use Rattle.paper.specs.Dcl.{samplerForm, plainForm, usageForm, vertexUsage, pixelUsage, samplerTypes, plainTypes, usageTypes, formLaid, isDeclared, positionOrFace, faceLaid, declaredAt, onDeclared, usageLaid, declaration};
-ghost use Rattle.versions.specs.Sets.{setOf};
-use paper::Operands;
-use paper::Reason;
-use paper::Refusal;
-use paper::Token;
+ghost use Rattle.paper.specs.Numbers.{toldToken};
+ghost use Rattle.paper.specs.OperandTokens.{typeOf};
+ghost use Rattle.paper.specs.Dcl.{samplerForm, usageForm, vertexUsage, pixelUsage, formLaid, isDeclared, positionOrFace, faceLaid, declaredAt, usageLaid, declaration};
+ghost use Rattle.told.specs.Numbered.{operandsNumber};
+ghost use Rattle.dcl.specs.Concluded.{concluded};
 use paper::Version;
 
-// Register types that are declared, as sets: each type raises its own bit.
-const NONE: u32 = 0;
-
-const INPUT: u32 = 1 << 1;
-
-const INPUT_AND_TEXTURE: u32 = 0b1010;
-
-const INPUT_AND_OUTPUT: u32 = 0b100_0010;
-
-const SAMPLER: u32 = 1 << 10;
-
-const MISCELLANEOUS: u32 = 1 << 17;
-
-fn sampler_types(version: Version) -> u32
-    ensures { λ r. ⌜ r ≡ setOf (samplerTypes version) ⌝ }
-{
-    match version {
-        Version::V2 => NONE,
-        Version::V3 => SAMPLER,
-        Version::P2 => SAMPLER,
-        Version::P3 => SAMPLER,
-    }
-}
-
-fn plain_types(version: Version) -> u32
-    ensures { λ r. ⌜ r ≡ setOf (plainTypes version) ⌝ }
-{
-    match version {
-        Version::V2 => NONE,
-        Version::V3 => NONE,
-        Version::P2 => INPUT_AND_TEXTURE,
-        Version::P3 => MISCELLANEOUS,
-    }
-}
-
-fn usage_types(version: Version) -> u32
-    ensures { λ r. ⌜ r ≡ setOf (usageTypes version) ⌝ }
-{
-    match version {
-        Version::V2 => INPUT,
-        Version::V3 => INPUT_AND_OUTPUT,
-        Version::P2 => NONE,
-        Version::P3 => INPUT_AND_TEXTURE,
-    }
-}
+// The register type of position and face.
+const MISCELLANEOUS: u32 = 17;
 
 fn sampler_form(usage: u32) -> bool
     ensures { λ r. ⌜ r ≡ samplerForm usage ⌝ }
@@ -86,27 +39,20 @@ fn pixel_usage(usage: u32) -> bool
 }
 
 // The form that goes with the destination's type: a sampler's, the plain one, or a usage.
-fn form_by(sampler: bool, plain: bool, pixel: bool, usage: u32) -> bool
-    ensures { λ r. ⌜ r ≡ pick sampler (samplerForm usage) (pick plain (plainForm usage) (pick pixel (pixelUsage usage) (vertexUsage usage))) ⌝ }
-{
-    if sampler {
-        return sampler_form(usage);
-    }
-    if plain {
-        return usage % 0x8000_0000 == 0;
-    }
-    if pixel {
-        return pixel_usage(usage);
-    }
-    vertex_usage(usage)
-}
-
 fn form_laid(version: Version, destination: u32, usage: u32) -> bool
     ensures { λ r. ⌜ r ≡ formLaid version (typeOf destination) usage ⌝ }
 {
-    let sampler = versions::type_in(sampler_types(version), destination);
-    let plain = versions::type_in(plain_types(version), destination);
-    form_by(sampler, plain, versions::is_pixel(version), usage)
+    let form = versions::form_of(version, destination);
+    if form == versions::SAMPLER_FORM {
+        return sampler_form(usage);
+    }
+    if form == versions::PLAIN_FORM {
+        return usage % 0x8000_0000 == 0;
+    }
+    if versions::is_pixel(version) {
+        return pixel_usage(usage);
+    }
+    vertex_usage(usage)
 }
 
 fn usage_laid(version: Version, destination: u32, usage: u32) -> bool
@@ -127,27 +73,22 @@ fn position_or_face(destination: u32) -> bool
 fn face_laid(version: Version, destination: u32) -> bool
     ensures { λ r. ⌜ r ≡ faceLaid version destination ⌝ }
 {
+    let declared = versions::declares_face(version);
     let kind = versions::type_of(destination);
     let face = position_or_face(destination);
-    match version {
-        Version::V2 => true,
-        Version::V3 => true,
-        Version::P2 => true,
-        Version::P3 => (kind != 17) | face,
-    }
+    !(declared & (kind == MISCELLANEOUS)) | face
 }
 
 fn is_declared(version: Version, destination: u32) -> bool
     ensures { λ r. ⌜ r ≡ isDeclared version (typeOf destination) ⌝ }
 {
-    let sampler = versions::type_in(sampler_types(version), destination);
-    let plain = versions::type_in(plain_types(version), destination);
-    let used = versions::type_in(usage_types(version), destination);
-    sampler | (plain | used)
+    let form = versions::form_of(version, destination);
+    form != versions::NO_FORM
 }
 
-fn declared_at(version: Version, destination: u32) -> Token
-    ensures { λ r. ⌜ r ≡ declaredAt version destination ⌝ }
+// What is told of the destination.
+fn declared_at(version: Version, destination: u32) -> u32
+    ensures { λ r. ⌜ r ≡ toldToken (declaredAt version destination) ⌝ }
 {
     let laid = layout::typed_destination_laid(version, destination);
     let face = face_laid(version, destination);
@@ -155,37 +96,28 @@ fn declared_at(version: Version, destination: u32) -> Token
     layout::layout_then_type(laid & face, typed)
 }
 
-fn refused(reason: Reason, position: usize) -> Operands
-    ensures { λ r. ⌜ r ≡ refusedOperands reason position ⌝ }
-{
-    Operands::Refused(Refusal { reason, position })
-}
-
 // The destination is judged first, then U, then what is left over.
-fn conclude(destination: Token, usage_laid: bool, no_more: bool) -> Operands
-    ensures { λ r. ⌜ r ≡ onDeclared destination (pick «usage_laid» (pick «no_more» Operands.Fit (refusedOperands Reason.Size 0)) (refusedOperands Reason.Operand 1)) ⌝ }
+fn conclude(destination: u32, usage_laid: bool, no_more: bool) -> u64
+    ensures { λ r. ⌜ r ≡ concluded destination «usage_laid» «no_more» ⌝ }
 {
-    match destination {
-        Token::Good => {}
-        Token::Bad(reason) => {
-            return refused(reason, 2);
-        }
+    if destination != 0 {
+        return told::refused(destination, 2);
     }
     if usage_laid {
         if no_more {
-            return Operands::Fit;
+            return told::FIT;
         }
-        return refused(Reason::Size, 0);
+        return told::refused(paper::SIZE, 0);
     }
-    refused(Reason::Operand, 1)
+    told::refused(paper::OPERAND, 1)
 }
 
-// The tokens behind a DCL's instruction token: U, the destination, and no more.
-pub fn judge_declaration(version: Version, behind: &[u32]) -> Operands
-    ensures { λ r. ⌜ toldOperands r ≡ toldOperands (declaration version (now (behind .entry))) ⌝ }
+// What is told of the tokens behind a DCL's instruction token: U, the destination, and no more.
+pub fn judge_declaration(version: Version, behind: &[u32]) -> u64
+    ensures { λ r. ⌜ r ≡ operandsNumber (declaration version (now (behind .entry))) ⌝ }
 {
     if behind.len() < 2 {
-        return refused(Reason::Size, 0);
+        return told::refused(paper::SIZE, 0);
     }
     let usage = behind[0];
     let destination = behind[1];

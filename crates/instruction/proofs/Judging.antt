@@ -12,52 +12,21 @@ use borrow.Author.Tests.{le-leb, lt-leb, leb-true, leb-false}
 use Rattle.paper.specs.Notation.{pick}
 use Rattle.paper.specs.Numbers.{refusal}
 use Rattle.paper.specs.InstructionToken.{opcodeOf, commentOpcode, endOpcode}
-use Rattle.paper.specs.OperandTokens.{typeOf, leftOver, refusedOperands}
-use Rattle.paper.specs.Dcl.{declaredAt, usageLaid, onDeclared, declaration}
 use Rattle.paper.specs.Blocks.{classOf}
 use Rattle.paper.specs.Instruction.{Head, broken, end, comment, operation, tokenHead, claim, byHead, judged}
 use Rattle.paper.specs.Places.{Entry, absent, listed, entryOf}
 use Rattle.paper.specs.declared.Version.{Version}
-use Rattle.paper.specs.declared.Reason.{Reason}
-use Rattle.paper.specs.declared.Reason.the-variants.{Bits as BITS, RunOut as RUN-OUT, Size as SIZE, Operand as OPERAND}
-use Rattle.paper.specs.declared.Refusal.{Refusal}
-use Rattle.paper.specs.declared.Token.{Token}
-use Rattle.paper.specs.declared.Token.the-variants.{Good as good, Bad as bad}
-use Rattle.paper.specs.declared.Operands.{Operands}
-use Rattle.paper.specs.declared.Operands.the-variants.{Refused as unfit}
+use Rattle.paper.specs.declared.Reason.the-variants.{Bits as BITS, RunOut as RUN-OUT}
 use Rattle.paper.specs.declared.Judged.the-variants.{Refused}
 use Rattle.paper.proofs.Bools.{apart}
 use Rattle.paper.proofs.FirstToken.{stray-comment, stray-end, no-row, stray-bits, Says, is-broken, is-comment, is-end, is-listed, says, fifteen}
 use Rattle.opcodes.specs.Classes.{classNumber}
-use Rattle.opcodes.specs.Shape.{shapeOf}
+use Rattle.opcodes.specs.Shape.{shapeOf, classIn}
 use Rattle.opcodes.proofs.Shapes.{shape-absent, shape-zero, shape-class}
 use Rattle.opcodes.proofs.Table.{beyond}
-use Rattle.instruction_token.specs.ByShape.{classIn, bitsBy}
+use Rattle.instruction_token.specs.ByShape.{bitsBy}
 use Rattle.instruction_token.proofs.ByShape.{bits-by, places-back}
 use Rattle.instruction.specs.Shown.{listedHead, roomFor, judgedWith, judgedIn, unlistedIn}
-
--- a DCL is refused at one of its three tokens
-near : (o : Operands) (r : Refusal) (p : ℕ) (reason : Reason) → o ≡ refusedOperands reason p → p ≤ 2 → o ≡ unfit r → r .position ≤ 2
-near o r p reason e few h = let same : p ≡ r .position = cc in omega arith
-
-module _ (r : Refusal) where
-  over-near : (rest : List ℕ) → leftOver rest ≡ unfit r → r .position ≤ 2
-  over-near [] h = apart (cc)
-  over-near (x ∷ rest) h = near _ r 0 SIZE refl (omega arith) h
-
-  usage-near : (laid : Bool) (rest : List ℕ) → pick laid (leftOver rest) (refusedOperands OPERAND 1) ≡ unfit r → r .position ≤ 2
-  usage-near true rest h = over-near rest h
-  usage-near false rest h = near _ r 1 OPERAND refl (omega arith) h
-
-  token-near : (t : Token) (laid : Bool) (rest : List ℕ) → onDeclared t (pick laid (leftOver rest) (refusedOperands OPERAND 1)) ≡ unfit r → r .position ≤ 2
-  token-near good laid rest h = usage-near laid rest h
-  token-near (bad reason) laid rest h = near _ r 2 reason refl (omega arith) h
-
-pub declared-near : (v : Version) (behind : List ℕ) (r : Refusal) → declaration v behind ≡ unfit r → r .position ≤ 2
-unfolding declaration
-declared-near v [] r h = near _ r 0 SIZE refl (omega arith) h
-declared-near v (u ∷ []) r h = near _ r 0 SIZE refl (omega arith) h
-declared-near v (u ∷ (d ∷ rest)) r h = token-near r (declaredAt v d) (usageLaid v (typeOf d) u) rest h
 
 module _ (v : Version) (first : ℕ) (behind : List ℕ) (left : ℕ) where
   -- where no row lists the opcode

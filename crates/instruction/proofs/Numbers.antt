@@ -10,8 +10,7 @@ use Rattle.paper.specs.declared.Class.{Class}
 use Rattle.paper.specs.declared.Operands.{Operands}
 use Rattle.paper.specs.declared.Operands.the-variants.{Fit, Refused as unfit}
 use Rattle.opcodes.specs.Classes.{classNumber}
-use Rattle.told.specs.Numbered.{yesNumber, judgedNumber}
-use Rattle.operands.specs.Numbered.{operandsNumber}
+use Rattle.told.specs.Numbered.{yesNumber, judgedNumber, operandsNumber}
 
 -- operands of which 0 is told take an instruction's tokens
 pub operands-number : (o : Operands) (told size : ℕ) (class : Class) → told ≡ operandsNumber o → told ≡ 0 →

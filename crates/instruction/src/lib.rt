@@ -5,37 +5,20 @@ ghost use lib.Dec.{leb};
 ghost use lib.ListN.{length};
 ghost use Rattle.paper.specs.InstructionToken.{opcodeOf};
 ghost use Rattle.paper.specs.Blocks.{classOf};
-ghost use Rattle.paper.specs.Dcl.{declaration};
 ghost use Rattle.paper.specs.Instruction.{operandsOf, byHead};
 ghost use Rattle.opcodes.specs.Classes.{classNumber};
-ghost use Rattle.instruction_token.specs.ByShape.{classIn};
-ghost use Rattle.operands.specs.Numbered.{operandsNumber};
-ghost use Rattle.told.specs.Numbered.{judgedNumber};
+ghost use Rattle.opcodes.specs.Shape.{classIn};
+ghost use Rattle.told.specs.Numbered.{operandsNumber, judgedNumber};
 ghost use Rattle.instruction.specs.Shown.{placesIn, listedHead, judgedIn, unlistedIn};
-use paper::Operands;
 use paper::Reason;
 use paper::Version;
-
-// The two tokens of a DCL, and no token more.
-fn judge_declared(version: Version, behind: &[u32]) -> u64
-    ensures { λ r. ⌜ r ≡ operandsNumber (declaration version (now (behind .entry))) ⌝ }
-{
-    let operands = dcl::judge_declaration(version, behind);
-    match operands {
-        Operands::Fit => 0,
-        Operands::Refused(refusal) => {
-            let reason = refusal.reason;
-            32 * (refusal.position as u64) + (2 * (paper::number_of(reason) as u64) + 1)
-        }
-    }
-}
 
 // The operands of an instruction that claims these tokens.
 fn judge_claimed(version: Version, shape: u64, first: u32, behind: &[u32]) -> u64
     ensures { λ r. ⌜ r ≡ operandsNumber (operandsOf version (opcodeOf first) (placesIn shape first) (now (behind .entry))) ⌝ }
 {
     if instruction_token::opcode_of(first) == paper::DCL {
-        return judge_declared(version, behind);
+        return dcl::judge_declaration(version, behind);
     }
     operands::judge_operands(version, instruction_token::places_of(shape, first), behind)
 }
@@ -51,8 +34,8 @@ fn judge_listed(version: Version, shape: u64, first: u32, behind: &[u32]) -> u64
         return told::refused_first(Reason::RunOut);
     }
     let told = judge_claimed(version, shape, first, &behind[..size]);
-    if told == 0 {
-        return told::yes(claim, (shape / 0x200_0000_0000) as u32);
+    if told == told::FIT {
+        return told::yes(claim, opcodes::class_in(shape));
     }
     told
 }

@@ -3,23 +3,23 @@ use mathlib.Core.Path.{_≡_, refl}
 use mathlib.Core.Bool.{Bool, true, false, not, _&&_, _||_}
 use mathlib.Core.List.{List, [], _∷_}
 use Prim.Native.Nat.{ℕ, suc, _*_, _/_, _%_, _^_, _<_, _≤_}
-use native.Mathlib.Nat.{mod-eq-of-lt, pow-le-pow-right}
+use native.Mathlib.Nat.{mod-lt, mod-eq-of-lt, pow-le-pow-right}
 use native.Mathlib.Omega.{arith}
 use lib.Dec.{eqb, leb, lit<}
 use lib.ListN.{length}
 use borrow.Author.Tests.{eq-eqb, ne-eqb, eqb-true, eqb-false}
 use Rattle.paper.specs.Notation.{pick, among, bits, bit}
 use Rattle.paper.specs.OpcodeTable.{DCL, DEF, DEFI, DEFB, IFC, BREAKC, SETP, TEX}
-use Rattle.paper.specs.Versions.{isThird}
+use Rattle.paper.specs.Versions.{hasPredicates}
 use Rattle.paper.specs.InstructionToken.{opcodeOf, controlsOf, isPredicated, hasDestination, mayBePredicated, withPredicate, controlsLaid, bitsLaid}
 use Rattle.paper.specs.Places.{listed, entryOf, Place, predicate}
 use Rattle.paper.specs.declared.Version.{Version}
 use Rattle.paper.proofs.Bools.{apart, both-left, both-right, and-true}
 use Rattle.places.specs.Places.{numberBy, decoded}
 use Rattle.places.proofs.Decoding.{without-predicate}
-use Rattle.opcodes.specs.Shape.{shapeOf}
+use Rattle.opcodes.specs.Shape.{shapeOf, ruleIn}
 use Rattle.opcodes.proofs.Shapes.{shape-places, shape-step, shape-rule, decoded-digits, decoded-predicated}
-use Rattle.instruction_token.specs.ByShape.{hasZeros, ruleIn, controlsBy, bitsBy, placesBy}
+use Rattle.instruction_token.specs.ByShape.{hasZeros, controlsBy, bitsBy, placesBy}
 
 -- the predicate's digit, as a machine of 64 bits shifts it
 pub predicate-small : (step : ℕ) → step < 8 → numberBy predicate * 2 ^ (7 * step) < 2 ^ 56
@@ -67,7 +67,7 @@ module _ (v : Version) (token : ℕ) (places : List Place) (e : entryOf v (opcod
   unfolding bitsBy
   bits-by =
       let destined : mayBePredicated v (opcodeOf token) places ≡ true → hasDestination places ≡ true
-      = needs-destination (isThird v) (hasDestination places) (not (among (opcodeOf token) (DCL ∷ DEF ∷ DEFI ∷ DEFB ∷ []))) in
+      = needs-destination (hasPredicates v) (hasDestination places) (not (among (opcodeOf token) (DCL ∷ DEF ∷ DEFI ∷ DEFB ∷ []))) in
       rw (
         shape-rule v (opcodeOf token) places e,
         shape-step v (opcodeOf token) places e,
@@ -89,19 +89,19 @@ module _ (v : Version) (token : ℕ) (places : List Place) (e : entryOf v (opcod
           (rw may at (decoded-predicated v (opcodeOf token) places e may))
 
 -- where bits 31:28 and the controls are zero, only an odd rule is broken
-zeros-by : (rule x : ℕ) → rule ≡ x % 4 → (none two : Bool) → eqb rule 0 ≡ none → eqb rule 2 ≡ two → controlsBy rule 0 ≡ eqb (x % 2) 0
-zeros-by rule x e true two n t = let zeros = eqb-true rule 0 n in rw (n, eq-eqb (x % 2) 0 (omega arith)) refl
-zeros-by rule x e false true n t = let second = eqb-true rule 2 t in rw (n, t, eq-eqb (x % 2) 0 (omega arith)) refl
-zeros-by rule x e false false n t =
+zeros-by : (rule : ℕ) → rule < 4 → (none two : Bool) → eqb rule 0 ≡ none → eqb rule 2 ≡ two → controlsBy rule 0 ≡ eqb (rule % 2) 0
+zeros-by rule few true two n t = let zeros = eqb-true rule 0 n in rw (n, eq-eqb (rule % 2) 0 (omega arith)) refl
+zeros-by rule few false true n t = let second = eqb-true rule 2 t in rw (n, t, eq-eqb (rule % 2) 0 (omega arith)) refl
+zeros-by rule few false false n t =
     let some = eqb-false rule 0 n in
     let other = eqb-false rule 2 t in
-    rw (n, t, ne-eqb (x % 2) 0 (λ z. omega arith)) refl
+    rw (n, t, ne-eqb (rule % 2) 0 (λ z. omega arith)) refl
 
-pub zeros-laid : (shape token : ℕ) → hasZeros token ≡ true → bitsBy shape token ≡ eqb (shape / 2 ^ 38 % 2) 0
+pub zeros-laid : (shape token : ℕ) → hasZeros token ≡ true → bitsBy shape token ≡ eqb (ruleIn shape % 2) 0
 unfolding bitsBy
 zeros-laid shape token t =
     let high : token / 2 ^ 28 ≡ 0 = eqb-true (token / 2 ^ 28) 0 (both-left (eqb (token / 2 ^ 28) 0) _ t) in
     let controls : controlsOf token ≡ 0 = eqb-true (controlsOf token) 0 (both-right (eqb (token / 2 ^ 28) 0) _ t) in
     let reserved : bits 31 29 token ≡ 0 = omega arith in
     let unpredicated : bit 28 token ≡ 0 = omega arith in
-    rw (reserved, controls, unpredicated, and-true (controlsBy (ruleIn shape) 0)) (zeros-by (ruleIn shape) (shape / 2 ^ 38) refl (eqb (ruleIn shape) 0) (eqb (ruleIn shape) 2) refl refl)
+    rw (reserved, controls, unpredicated, and-true (controlsBy (ruleIn shape) 0)) (zeros-by (ruleIn shape) (mod-lt _ (lit< tt)) (eqb (ruleIn shape) 0) (eqb (ruleIn shape) 2) refl refl)

@@ -1,25 +1,17 @@
 -- What an instruction's first token says, by the fields of its opcode's shape.
-use Prim.Native.Nat.{ℕ, _+_, _*_, _/_, _%_, _^_}
+use Prim.Native.Nat.{ℕ, _+_, _*_, _/_, _^_}
 use mathlib.Core.Bool.{Bool, not, _&&_, _||_}
 use lib.Dec.{eqb, leb}
 use Rattle.paper.specs.Notation.{bits, bit, pick}
 use Rattle.paper.specs.InstructionToken.{controlsOf, isPredicated}
 use Rattle.paper.specs.Places.{predicate}
 use Rattle.places.specs.Places.{numberBy}
+use Rattle.opcodes.specs.Shape.{placesField, stepIn, ruleIn}
 
 -- the table has no rule 3; it is as rule 1, so that an odd rule alone forbids zero controls
 abbrev pub controlsBy : ℕ → ℕ → Bool
 controlsBy rule controls =
     pick (eqb rule 0) (eqb controls 0) (pick (eqb rule 2) (leb controls 2) (leb 1 controls && leb controls 6))
-
-abbrev pub ruleIn : ℕ → ℕ
-ruleIn shape = shape / 2 ^ 38 % 4
-
-abbrev pub classIn : ℕ → ℕ
-classIn shape = shape / 2 ^ 41
-
-abbrev pub stepIn : ℕ → ℕ
-stepIn shape = shape / 2 ^ 35 % 8
 
 abbrev pub hasZeros : ℕ → Bool
 hasZeros token = eqb (token / 2 ^ 28) 0 && eqb (controlsOf token) 0
@@ -31,4 +23,4 @@ bitsBy shape token =
 
 unfoldable pub placesBy : ℕ → ℕ → ℕ
 placesBy shape token =
-    pick (isPredicated token) (shape % 2 ^ 35 + numberBy predicate * 2 ^ (7 * stepIn shape)) (shape % 2 ^ 35)
+    pick (isPredicated token) (placesField shape + numberBy predicate * 2 ^ (7 * stepIn shape)) (placesField shape)

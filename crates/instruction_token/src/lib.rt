@@ -56,20 +56,20 @@ pub fn bits_laid(shape: u64, token: u32) -> bool
     ensures { λ r. ⌜ r ≡ bitsBy shape token ⌝ }
 {
     if has_zeros(token) {
-        return shape / 0x40_0000_0000 % 2 == 0;
+        return opcodes::rule_in(shape) % 2 == 0;
     }
-    let controls = controls_laid(shape / 0x40_0000_0000 % 4, token / 0x1_0000 % 0x100);
-    (token / 0x2000_0000 % 8 == 0)
-        & (controls & ((token / 0x1000_0000 % 2 == 0) | (shape / 0x8_0000_0000 % 8 != 0)))
+    let controls = controls_laid(opcodes::rule_in(shape), token / 0x1_0000 % 0x100);
+    let step = opcodes::step_in(shape);
+    (token / 0x2000_0000 % 8 == 0) & (controls & ((token / 0x1000_0000 % 2 == 0) | (step != 0)))
 }
 
 // The places of the operands, and the predicate's behind them.
 pub fn places_of(shape: u64, token: u32) -> u64
     ensures { λ r. ⌜ r ≡ placesBy shape token ⌝ }
 {
-    let places = shape % 0x8_0000_0000;
+    let row = opcodes::places_in(shape);
     if token / 0x1000_0000 % 2 == 1 {
-        return places + (places::PREDICATE << (7 * (shape / 0x8_0000_0000 % 8)));
+        return row + (places::PREDICATE << (7 * opcodes::step_in(shape)));
     }
-    places
+    row
 }

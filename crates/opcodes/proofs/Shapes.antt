@@ -18,7 +18,7 @@ use Rattle.paper.specs.declared.Closer.the-variants.{Else, EndIf, EndLoop, EndR
 use Rattle.paper.specs.declared.Class.{Class}
 use Rattle.paper.specs.declared.Class.the-variants.{One, Opens, Closes}
 use Rattle.opcodes.specs.Classes.{classNumber}
-use Rattle.opcodes.specs.Shape.{controlsRule, predicateStep, shapeIn, shapeOf}
+use Rattle.opcodes.specs.Shape.{controlsRule, predicateStep, shapeIn, shapeOf, placesField, stepIn, ruleIn, classIn}
 use Rattle.places.specs.Places.{digits}
 use Rattle.places.specs.Places.{numberBy, decoded}
 use Rattle.paper.proofs.Bools.{both-left, both-right}
@@ -76,16 +76,16 @@ abbrev packed : ℕ → ℕ → ℕ → ℕ → ℕ
 packed places step rule class = places + (2 ^ 35 * step + (2 ^ 38 * rule + (2 ^ 40 + 2 ^ 41 * class)))
 
 module _ (places step rule class : ℕ) (hp : places < 2 ^ 35) (hs : step ≤ 5) (hr : rule < 3) where
-  packed-places : packed places step rule class % 2 ^ 35 ≡ places
+  packed-places : placesField (packed places step rule class) ≡ places
   packed-places = omega arith
 
-  packed-step : packed places step rule class / 2 ^ 35 % 8 ≡ step
+  packed-step : stepIn (packed places step rule class) ≡ step
   packed-step = omega arith
 
-  packed-rule : packed places step rule class / 2 ^ 38 % 4 ≡ rule
+  packed-rule : ruleIn (packed places step rule class) ≡ rule
   packed-rule = omega arith
 
-  packed-class : packed places step rule class / 2 ^ 41 ≡ class
+  packed-class : classIn (packed places step rule class) ≡ class
   packed-class = omega arith
 
   packed-bound : class < 16 → packed places step rule class < 2 ^ 45
@@ -130,16 +130,16 @@ module _ (v : Version) (opcode : ℕ) (places : List Place) (e : entryOf v opcod
   step-few : predicateStep v opcode places ≤ 5
   step-few = step-small (mayBePredicated v opcode places) (length places) few
 
-  pub shape-places : shapeOf v opcode % 2 ^ 35 ≡ digits places
+  pub shape-places : placesField (shapeOf v opcode) ≡ digits places
   shape-places = rw shape-listed (packed-places _ _ _ _ digits-small step-few (rule-small opcode))
 
-  pub shape-step : shapeOf v opcode / 2 ^ 35 % 8 ≡ predicateStep v opcode places
+  pub shape-step : stepIn (shapeOf v opcode) ≡ predicateStep v opcode places
   shape-step = rw shape-listed (packed-step _ _ _ _ digits-small step-few (rule-small opcode))
 
-  pub shape-rule : shapeOf v opcode / 2 ^ 38 % 4 ≡ controlsRule opcode
+  pub shape-rule : ruleIn (shapeOf v opcode) ≡ controlsRule opcode
   shape-rule = rw shape-listed (packed-rule _ _ _ _ digits-small step-few (rule-small opcode))
 
-  pub shape-class : shapeOf v opcode / 2 ^ 41 ≡ classNumber (classOf opcode)
+  pub shape-class : classIn (shapeOf v opcode) ≡ classNumber (classOf opcode)
   shape-class = rw shape-listed (packed-class _ _ _ _ digits-small step-few (rule-small opcode))
 
   pub shape-bound : shapeOf v opcode < 2 ^ 45

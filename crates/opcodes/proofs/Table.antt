@@ -9,14 +9,16 @@ use native.Mathlib.Omega.{arith}
 use lib.Dec.{eqb, ltb}
 use borrow.Author.Tests.{ne-eqb, ltb-true, eqb-true}
 use Rattle.paper.specs.Notation.{pick, among}
-use Rattle.paper.specs.Versions.{isOne}
+use Rattle.paper.specs.Versions.{versions, isOne, hasPredicates}
 use Rattle.paper.specs.OpcodeTable.{Row, rows}
 use Rattle.paper.specs.Blocks.{classes, classOf}
 use Rattle.paper.specs.declared.Version.{Version}
-use Rattle.paper.specs.declared.Version.the-variants.{V2, V3, P2, P3}
+use Rattle.paper.specs.declared.Version.the-variants.{V3}
 use Rattle.opcodes.specs.Shape.{shapeOf}
-use Rattle.opcodes.specs.Rows.{rank, sincos, rowOf}
+use Rattle.versions.specs.Rows.{rank}
+use Rattle.opcodes.specs.Rows.{firstShape, sincos, shapeFrom, rowOf}
 use Rattle.paper.proofs.Bools.{both-left, both-right}
+use Rattle.paper.proofs.VersionTokens.{each}
 use Rattle.paper.specs.Places.{absent, entryIn, entryOf, typedPlaces}
 use Rattle.opcodes.proofs.Computed.{computed}
 
@@ -52,9 +54,13 @@ pub beyond : (v : Version) (opcode : ℕ) → limit ≤ opcode → entryOf v opc
 unfolding rows entryOf
 beyond v opcode h = not-listed v opcode rows h refl
 
+shape-beyond : (opcode : ℕ) (vs : List Version) → limit ≤ opcode → firstShape vs opcode ≡ 0
+shape-beyond opcode [] h = refl
+shape-beyond opcode (v ∷ vs) h = rw (beyond v opcode h) (shape-beyond opcode vs h)
+
 row-beyond : (opcode : ℕ) → limit ≤ opcode → rowOf opcode ≡ 0
 unfolding rowOf
-row-beyond opcode h = rw (beyond V2 opcode h, beyond P3 opcode h) refl
+row-beyond opcode h = rw (shape-beyond opcode versions h) refl
 
 -- what the code knows behind its arms: the opcode is none of those below n that have a row
 abbrev Passed : ℕ → ℕ → Bool → Type 0 → Type 0
@@ -79,35 +85,27 @@ no-row-from opcode (suc n) from rest =
 pub no-row : (opcode : ℕ) → NoneBelow opcode limit → rowOf opcode ≡ 0
 no-row opcode rest = no-row-from opcode limit (row-beyond opcode) rest
 
--- what the code finds for the version of a rank, by the row of an opcode: none where the version's bit is zero, but for sincos; a step only in V3 and P3
-abbrev pub found : ℕ → ℕ → ℕ → ℕ
-found n opcode row =
-    pick (eqb (row / 2 ^ n % 2) 0) (pick (eqb opcode sincos && eqb (n % 2) 1) (shapeOf V3 sincos) 0)
-    (pick (eqb (n % 2) 1) (row / 16) (row / 16 / 2 ^ 38 * 2 ^ 38 + row / 16 % 2 ^ 35))
+-- what the code finds for the version of a rank, with predicates or without, by the row of an opcode: none where the version's bit is zero, but
+-- for SINCOS; a step only where there are predicates
+abbrev pub found : ℕ → Bool → ℕ → ℕ → ℕ
+found n predicates opcode row =
+    pick (eqb (row / 2 ^ n % 2) 0) (pick (eqb opcode sincos && predicates) (shapeOf V3 sincos) 0)
+    (pick predicates (row / shapeFrom) (row / shapeFrom / 2 ^ 38 * 2 ^ 38 + row / shapeFrom % 2 ^ 35))
 
 abbrev right : Version → ℕ → Bool
-right v opcode = eqb (found (rank v) opcode (rowOf opcode)) (shapeOf v opcode)
+right v opcode = eqb (found (rank v) (hasPredicates v) opcode (rowOf opcode)) (shapeOf v opcode)
 
 right-beyond : (v : Version) (opcode : ℕ) → limit ≤ opcode → right v opcode ≡ true
 unfolding shapeOf
-right-beyond v opcode h = rw (beyond v opcode h, row-beyond opcode h, ne-eqb opcode sincos (λ e. omega arith)) (by v)
-  where
-    by : (v : Version) → eqb (found (rank v) limit 0) 0 ≡ true
-    by V2 = refl
-    by V3 = refl
-    by P2 = refl
-    by P3 = refl
+right-beyond v opcode h =
+    rw (beyond v opcode h, row-beyond opcode h, ne-eqb opcode sincos (λ e. omega arith))
+    (each (λ v. eqb (found (rank v) (hasPredicates v) limit 0) 0) refl v)
 
 agrees : (v : Version) (opcode : ℕ) → right v opcode ≡ true
 unfolding rows entryOf typedPlaces classOf classes shapeOf rowOf
 agrees = computed right limit refl right-beyond
 
 -- what the code finds is what the paper's table says
-pub looked-up : (v : Version) (opcode n row : ℕ) → n ≡ rank v → row ≡ rowOf opcode → found n opcode row ≡ shapeOf v opcode
-looked-up v opcode n row hn hr = rw (hr, hn) (eqb-true _ (shapeOf v opcode) (agrees v opcode))
-
-pub rank-small : (v : Version) (n : ℕ) → n ≡ rank v → n < 4
-rank-small V2 n h = omega arith
-rank-small V3 n h = omega arith
-rank-small P2 n h = omega arith
-rank-small P3 n h = omega arith
+pub looked-up : (v : Version) (opcode n row : ℕ) (predicates : Bool) →
+    n ≡ rank v → predicates ≡ hasPredicates v → row ≡ rowOf opcode → found n predicates opcode row ≡ shapeOf v opcode
+looked-up v opcode n row predicates hn hp hr = rw (hn, hp, hr) (eqb-true _ (shapeOf v opcode) (agrees v opcode))

@@ -1,5 +1,5 @@
 -- The shape of an opcode in a version: what document 01's table says of it, as one number.
-use Prim.Native.Nat.{ℕ, _+_, _*_, _^_}
+use Prim.Native.Nat.{ℕ, _+_, _*_, _/_, _%_, _^_}
 use mathlib.Core.List.{List, [], _∷_}
 use lib.Dec.{eqb}
 use lib.ListN.{length}
@@ -29,3 +29,16 @@ shapeIn v opcode (listed places) =
 
 unfoldable pub shapeOf : Version → ℕ → ℕ
 shapeOf v opcode = shapeIn v opcode (entryOf v opcode)
+
+-- the fields of a shape, read back
+abbrev pub placesField : ℕ → ℕ
+placesField shape = shape % 2 ^ 35
+
+abbrev pub stepIn : ℕ → ℕ
+stepIn shape = shape / 2 ^ 35 % 8
+
+abbrev pub ruleIn : ℕ → ℕ
+ruleIn shape = shape / 2 ^ 38 % 4
+
+abbrev pub classIn : ℕ → ℕ
+classIn shape = shape / 2 ^ 41

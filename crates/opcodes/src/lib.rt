@@ -2,8 +2,8 @@
 mod rows;
 
 ghost use mathlib.Core.Path.{_≡_};
-ghost use Rattle.opcodes.specs.Shape.{shapeOf};
-ghost use Rattle.opcodes.specs.Rows.{rank, rowOf};
+ghost use Rattle.opcodes.specs.Shape.{shapeOf, placesField, stepIn, ruleIn, classIn};
+ghost use Rattle.opcodes.specs.Rows.{rowOf};
 use paper::Version;
 
 // The row of an opcode; 0 for one that is in no row. One arm for each opcode: only so does it become one table in memory.
@@ -77,39 +77,50 @@ fn row_of(opcode: u32) -> u64
     }
 }
 
-fn rank_of(version: Version) -> u32
-    ensures { λ r. ⌜ r ≡ rank version ⌝ }
-{
-    match version {
-        Version::V2 => 0,
-        Version::V3 => 1,
-        Version::P2 => 2,
-        Version::P3 => 3,
-    }
-}
-
-// Where a shape's step of the predicate begins, and its rule of the controls.
-const STEP_FROM: u64 = 0x8_0000_0000;
-
-const CONTROLS_FROM: u64 = 0x40_0000_0000;
-
 // The shape of an opcode in a version; 0 where the table does not list it there.
 pub fn shape_of(version: Version, opcode: u32) -> u64
     ensures { λ r. ⌜ r ≡ shapeOf version opcode ⌝ }
 {
-    let rank = rank_of(version);
+    let rank = versions::rank_of(version);
+    let predicates = versions::has_predicates(version);
     let row = row_of(opcode);
     if (row >> rank) % 2 == 0 {
         // SINCOS: "DSSS; in V3 P3 DS"
-        if (opcode == 37) & (rank % 2 == 1) {
-            return rows::SINCOS_THIRD / 16;
+        if (opcode == 37) & predicates {
+            return rows::SINCOS_THIRD / rows::SHAPE;
         }
         return 0;
     }
-    let shape = row / 16;
-    if rank % 2 == 1 {
+    let shape = row / rows::SHAPE;
+    if predicates {
         return shape;
     }
     // "predicated: only V3 and P3": the step is left out
-    shape / CONTROLS_FROM * CONTROLS_FROM + shape % STEP_FROM
+    shape / rows::RULE * rows::RULE + shape % rows::STEP
+}
+
+// The fields of a shape: its places, as one number; behind how many operands the predicate stands, and 0 where it may not; the rule of the
+// controls; the number of its class.
+pub fn places_in(shape: u64) -> u64
+    ensures { λ r. ⌜ r ≡ placesField shape ⌝ }
+{
+    shape % rows::STEP
+}
+
+pub fn step_in(shape: u64) -> u64
+    ensures { λ r. ⌜ r ≡ stepIn shape ⌝ }
+{
+    shape / rows::STEP % (rows::RULE / rows::STEP)
+}
+
+pub fn rule_in(shape: u64) -> u64
+    ensures { λ r. ⌜ r ≡ ruleIn shape ⌝ }
+{
+    shape / rows::RULE % (rows::LISTED / rows::RULE)
+}
+
+pub fn class_in(shape: u64) -> u32
+    ensures { λ r. ⌜ r ≡ classIn shape ⌝ }
+{
+    (shape / rows::CLASS) as u32
 }

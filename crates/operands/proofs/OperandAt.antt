@@ -2,7 +2,7 @@
 use mathlib.Core.Path.{_≡_, refl, sym, _∙_}
 use mathlib.Core.Bool.{Bool, true, false}
 use mathlib.Core.List.{List, [], _∷_}
-use Prim.Native.Nat.{ℕ, zero, suc, _+_, _*_, _/_, _%_, _^_, _<_, _≤_}
+use Prim.Native.Nat.{ℕ, zero, suc, _+_, _/_, _%_, _^_, _<_, _≤_}
 use native.Mathlib.Numerals.{add-one}
 use native.Mathlib.Omega.{arith}
 use lib.Dec.{eqb}
@@ -24,7 +24,7 @@ use Rattle.paper.specs.declared.Operands.the-variants.{Fit, Refused as Unfit}
 use Rattle.paper.specs.Places.{Place, raw, relative}
 use Rattle.places.specs.Places.{placeBy, placesIn, decoded}
 use Rattle.tokens.proofs.TokenAt.{raw-good, not-free-not-relative}
-use Rattle.operands.specs.Numbered.{takenNumber}
+use Rattle.told.specs.Numbered.{faultNumber, tookNumber, takenNumber}
 use Rattle.operands.proofs.Numbers.{on-token-number, taken-pick}
 use Rattle.places.proofs.Decoding.{decoded-zero, decoded-step}
 
@@ -51,7 +51,7 @@ operand-at v place offset at behind h = rw (drop-cons behind at 0 h, add-one at)
 -- what is told of an operand, by what is told of its token
 pub relative-number : (v : Version) (offset at told : ℕ) (behind : List ℕ) → at < length behind →
     told ≡ toldToken (tokenAt v relative (getD behind at 0)) →
-    takenNumber (relativeToken v offset (drop at behind)) ≡ pick (eqb told 0) 4 (32 * offset + (2 * told + 1))
+    takenNumber (relativeToken v offset (drop at behind)) ≡ pick (eqb told 0) (tookNumber 2) (faultNumber told offset)
 relative-number v offset at told behind h e =
     rw (relative-at v offset at behind h) (on-token-number (tokenAt v relative (getD behind at 0)) told offset (Took 2) e)
 
@@ -64,27 +64,27 @@ module _ (v : Version) (place : Place) (offset at told : ℕ) (behind : List ℕ
 
   module _ (e : told ≡ toldToken (tokenAt v place token)) where
     operand-number : takenNumber (operand v place offset (drop at behind)) ≡
-        pick (eqb told 0) (pick (bringsRelative place token) (takenNumber brought) 2) (32 * offset + (2 * told + 1))
+        pick (eqb told 0) (pick (bringsRelative place token) (takenNumber brought) (tookNumber 1)) (faultNumber told offset)
     operand-number =
         rw (operand-at v place offset at behind h, ← (taken-pick (bringsRelative place token) brought (Took 1)))
         (on-token-number (tokenAt v place token) told offset (pick (bringsRelative place token) brought (Took 1)) e)
 
     pub free-number : bringsRelative place token ≡ eqb (bit 13 token) 1 → takenNumber (operand v place offset (drop at behind)) ≡
-        pick (eqb told 0) (pick (eqb (bit 13 token) 1) (takenNumber brought) 2) (32 * offset + (2 * told + 1))
+        pick (eqb told 0) (pick (eqb (bit 13 token) 1) (takenNumber brought) (tookNumber 1)) (faultNumber told offset)
     free-number b = operand-number ∙ rw b refl
 
     typed-by : (z : Bool) → eqb told 0 ≡ z → isFree place ≡ false →
-        pick z (pick (bringsRelative place token) (takenNumber brought) 2) (32 * offset + (2 * told + 1)) ≡
-        pick z 2 (32 * offset + (2 * told + 1))
+        pick z (pick (bringsRelative place token) (takenNumber brought) (tookNumber 1)) (faultNumber told offset) ≡
+        pick z (tookNumber 1) (faultNumber told offset)
     typed-by true z not-free =
         rw (not-free-not-relative v place token not-free (sym e ∙ eqb-true told 0 z)) refl
     typed-by false z not-free = refl
 
     pub typed-number : isFree place ≡ false →
-        takenNumber (operand v place offset (drop at behind)) ≡ pick (eqb told 0) 2 (32 * offset + (2 * told + 1))
+        takenNumber (operand v place offset (drop at behind)) ≡ pick (eqb told 0) (tookNumber 1) (faultNumber told offset)
     typed-number not-free = operand-number ∙ typed-by (eqb told 0) refl not-free
 
-  pub raw-number : place ≡ raw → takenNumber (operand v place offset (drop at behind)) ≡ 2
+  pub raw-number : place ≡ raw → takenNumber (operand v place offset (drop at behind)) ≡ tookNumber 1
   raw-number r =
       rw (operand-at v place offset at behind h, r, ← (raw-good v raw token refl)) refl
 

@@ -1,14 +1,13 @@
 -- Document 01, "DCL".
 use Prim.Native.Nat.{ℕ}
-use mathlib.Core.Bool.{Bool, true, not, _&&_, _||_}
+use mathlib.Core.Bool.{Bool, not, _&&_, _||_}
 use mathlib.Core.List.{List, [], _∷_}
 use lib.Dec.{eqb, leb}
 use Rattle.paper.specs.Notation.{bits, bit, pick, among}
-use Rattle.paper.specs.Versions.{isPixel}
+use Rattle.paper.specs.Versions.{has, isPixel}
 use Rattle.paper.specs.Places.{declared}
 use Rattle.paper.specs.OperandTokens.{numberField, typeOf, laid, layoutThenType, refusedOperands, leftOver}
 use Rattle.paper.specs.declared.Version.{Version}
-use Rattle.paper.specs.declared.Version.the-variants.{V2, V3, P2, P3}
 use Rattle.paper.specs.declared.Reason.the-variants.{Size as SIZE, Operand as OPERAND}
 use Rattle.paper.specs.declared.Token.{Token}
 use Rattle.paper.specs.declared.Token.the-variants.{Good, Bad}
@@ -44,26 +43,21 @@ pixelUsage token =
 
 -- the types of each form
 abbrev pub samplerTypes : Version → List ℕ
-samplerTypes V2 = []
-samplerTypes V3 = 10 ∷ []
-samplerTypes P2 = 10 ∷ []
-samplerTypes P3 = 10 ∷ []
+samplerTypes v = has v .samplers
 
 abbrev pub plainTypes : Version → List ℕ
-plainTypes V2 = []
-plainTypes V3 = []
-plainTypes P2 = 1 ∷ 3 ∷ []
-plainTypes P3 = 17 ∷ []
+plainTypes v = has v .plains
 
 abbrev pub usageTypes : Version → List ℕ
-usageTypes V2 = 1 ∷ []
-usageTypes V3 = 1 ∷ 6 ∷ []
-usageTypes P2 = []
-usageTypes P3 = 1 ∷ 3 ∷ []
+usageTypes v = has v .usages
 
 -- "Any other type is REGISTER."
 abbrev pub isDeclared : Version → ℕ → Bool
 isDeclared v type = among type (samplerTypes v) || (among type (plainTypes v) || among type (usageTypes v))
+
+-- the version whose plain types are 17, the register of position and face
+abbrev pub declaresFace : Version → Bool
+declaresFace v = among 17 (plainTypes v)
 
 -- "P3 type 17, number 0 position or 1 face (face: mask F, bits 23:20 zero); another number or face is OPERAND at the destination"
 abbrev pub positionOrFace : ℕ → Bool
@@ -72,10 +66,7 @@ positionOrFace token =
     || (eqb (numberField token) 1 && (eqb (bits 19 16 token) 0xF && eqb (bits 23 20 token) 0))
 
 abbrev pub faceLaid : Version → ℕ → Bool
-faceLaid V2 token = true
-faceLaid V3 token = true
-faceLaid P2 token = true
-faceLaid P3 token = not (eqb (typeOf token) 17) || positionOrFace token
+faceLaid v token = not (declaresFace v && eqb (typeOf token) 17) || positionOrFace token
 
 abbrev pub declaredAt : Version → ℕ → Token
 declaredAt v token =

@@ -4,7 +4,7 @@ use mathlib.Core.Bool.{Bool, false, not, _&&_, _||_}
 use mathlib.Core.List.{List, [], _∷_}
 use lib.Dec.{eqb, leb}
 use Rattle.paper.specs.Notation.{bits, bit, pick, among}
-use Rattle.paper.specs.Versions.{isThird}
+use Rattle.paper.specs.Versions.{hasPredicates}
 use Rattle.paper.specs.OpcodeTable.{IFC, BREAKC, SETP, TEX, DCL, DEF, DEFI, DEFB}
 use Rattle.paper.specs.Places.{Place, predicate, isDestination}
 use Rattle.paper.specs.declared.Version.{Version}
@@ -31,7 +31,7 @@ hasDestination (place ∷ places) = isDestination place || hasDestination places
 -- "only V3 and P3, and only with a D below other than DCL, DEF, DEFI, DEFB"
 abbrev pub mayBePredicated : Version → ℕ → List Place → Bool
 mayBePredicated v opcode places =
-    isThird v && (hasDestination places && not (among opcode (DCL ∷ DEF ∷ DEFI ∷ DEFB ∷ [])))
+    hasPredicates v && (hasDestination places && not (among opcode (DCL ∷ DEF ∷ DEFI ∷ DEFB ∷ [])))
 
 -- "The predicate is then one source token, last of the instruction's tokens"
 abbrev pub withPredicate : Bool → List Place → List Place

@@ -4,11 +4,10 @@ use mathlib.Core.Bool.{Bool, true, false, not, _&&_, _||_}
 use mathlib.Core.List.{List, [], _∷_}
 use lib.Dec.{eqb}
 use Rattle.paper.specs.Notation.{bits, bit, pick, among}
-use Rattle.paper.specs.Versions.{isPixel, isThird}
+use Rattle.paper.specs.Versions.{has, isPixel, hasPredicates}
 use Rattle.paper.specs.Numbers.{refusal}
 use Rattle.paper.specs.Places.{Types, free, only, Place, raw, usage, declared, destination, source, condition, predicate, relative, isRaw, isDestination}
 use Rattle.paper.specs.declared.Version.{Version}
-use Rattle.paper.specs.declared.Version.the-variants.{V2, V3, P2, P3}
 use Rattle.paper.specs.declared.Reason.{Reason}
 use Rattle.paper.specs.declared.Reason.the-variants.{Size as SIZE, Operand as OPERAND, Register as REGISTER}
 use Rattle.paper.specs.declared.Operands.{Operands}
@@ -32,16 +31,10 @@ bothLaid token = eqb (bits 15 14 token) 0 && eqb (bit 31 token) 1
 
 -- "Bit 13 may be one only at places called free below: sources in V2, V3, P3, destinations in V3."
 abbrev pub relativeSources : Version → Bool
-relativeSources V2 = true
-relativeSources V3 = true
-relativeSources P2 = false
-relativeSources P3 = true
+relativeSources v = has v .sourcesRelative
 
 abbrev pub relativeDestinations : Version → Bool
-relativeDestinations V2 = false
-relativeDestinations V3 = true
-relativeDestinations P2 = false
-relativeDestinations P3 = false
+relativeDestinations v = has v .destinationsRelative
 
 -- the "places called free"
 abbrev pub isFree : Place → Bool
@@ -116,14 +109,11 @@ freeSourceTypes v = pick (isPixel v) (0 ∷ 1 ∷ 2 ∷ 11 ∷ 12 ∷ 13 ∷ 3 �
 
 -- "CALLNZ's second and IF 14, in V3 and P3 also 19"
 abbrev pub conditionTypes : Version → List ℕ
-conditionTypes v = pick (isThird v) (14 ∷ 19 ∷ []) (14 ∷ [])
+conditionTypes v = pick (hasPredicates v) (14 ∷ 19 ∷ []) (14 ∷ [])
 
 -- "type 3 or 15 (P3: 15 only)"
 abbrev pub relativeTypes : Version → List ℕ
-relativeTypes V2 = 3 ∷ 15 ∷ []
-relativeTypes V3 = 3 ∷ 15 ∷ []
-relativeTypes P2 = 3 ∷ 15 ∷ []
-relativeTypes P3 = 15 ∷ []
+relativeTypes v = pick (has v .addresses) (3 ∷ 15 ∷ []) (15 ∷ [])
 
 -- the predicate is "type 19"
 abbrev pub predicateTypes : List ℕ

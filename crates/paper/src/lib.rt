@@ -46,6 +46,13 @@ pub enum Reason {
     Record,
 }
 
+// The numbers of the faults that are told of operands.
+pub const SIZE: u32 = 6;
+
+pub const OPERAND: u32 = 7;
+
+pub const REGISTER: u32 = 8;
+
 pub fn number_of(reason: Reason) -> u32
     ensures { λ r. ⌜ r ≡ numberOf reason ⌝ }
 {
@@ -55,9 +62,9 @@ pub fn number_of(reason: Reason) -> u32
         Reason::Opcode => 3,
         Reason::Bits => 4,
         Reason::RunOut => 5,
-        Reason::Size => 6,
-        Reason::Operand => 7,
-        Reason::Register => 8,
+        Reason::Size => SIZE,
+        Reason::Operand => OPERAND,
+        Reason::Register => REGISTER,
         Reason::Block => 9,
         Reason::Depth => 10,
         Reason::Tail => 11,

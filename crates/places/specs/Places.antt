@@ -5,6 +5,10 @@ use lib.Dec.{eqb}
 use Rattle.paper.specs.Notation.{pick}
 use Rattle.paper.specs.Places.{free, only, Place, raw, usage, declared, destination, source, condition, predicate, relative}
 
+-- the one type of a place of one type, which its lowest five bits are
+abbrev pub onlyType : ℕ → ℕ
+onlyType n = n % 32
+
 -- a place of one type is that type, plus 32 for a destination or 64 for a source; the others take numbers that are no register's type
 unfoldable pub placeBy : ℕ → Place
 placeBy n =
@@ -17,7 +21,7 @@ placeBy n =
     (pick (eqb n 93) predicate
     (pick (eqb n 94) relative
     (pick (eqb n 95) (source free)
-    (pick (eqb (n / 32) 1) (destination (only (n % 32 ∷ []))) (source (only (n % 32 ∷ []))))))))))))
+    (pick (eqb (n / 32) 1) (destination (only (onlyType n ∷ []))) (source (only (onlyType n ∷ []))))))))))))
 
 -- one type is itself; TEXKILL's two are 30
 abbrev typesNumber : List ℕ → ℕ

@@ -1,7 +1,7 @@
 // The places of operands, by their numbers.
 ghost use mathlib.Core.Path.{_≡_};
 ghost use Rattle.paper.specs.Places.{isRaw as isRawPlace, isDestination as isDestinationPlace, isPredicate as isPredicatePlace};
-ghost use Rattle.places.specs.Places.{placeBy};
+ghost use Rattle.places.specs.Places.{placeBy, onlyType};
 
 pub const RAW: u64 = 1;
 
@@ -13,7 +13,7 @@ pub const DESTINATION: u64 = 32;
 pub const SOURCE: u64 = 64;
 
 // The places with a name are these and more in their lowest five bits: no register's type is.
-pub const NAMED: u64 = 28;
+pub const NAMED: u32 = 28;
 
 pub const DECLARED: u64 = 61;
 
@@ -49,4 +49,11 @@ pub fn is_predicate(place: u64) -> bool
     ensures { λ r. ⌜ r ≡ isPredicatePlace (placeBy place) ⌝ }
 {
     place == PREDICATE
+}
+
+// The one type of a place of one type.
+pub fn only_type(place: u64) -> u32
+    ensures { λ r. ⌜ r ≡ onlyType place ⌝ }
+{
+    (place % DESTINATION) as u32
 }

@@ -12,7 +12,7 @@ use Rattle.paper.specs.OpcodeTable.{DCL, rows}
 use Rattle.paper.specs.InstructionToken.{opcodeOf, controlsOf, controlsLaid, hasDestination, isPredicated, bitsLaid, withPredicate}
 use Rattle.paper.specs.Dcl.{declaration}
 use Rattle.paper.specs.Instruction.{operands, operandsOf}
-use Rattle.paper.specs.Versions.{isThird}
+use Rattle.paper.specs.Versions.{hasPredicates}
 use Rattle.paper.specs.Places.{listed, entryOf, typedPlaces, Place, isPredicate}
 use Rattle.paper.specs.declared.Version.{Version}
 use Rattle.paper.specs.declared.Version.the-variants.{V2, V3, P2, P3}
@@ -56,7 +56,7 @@ module _ (v : Version) (token : ℕ) (places : List Place) (e : entryOf v (opcod
   dcl-row d =
       let same : listed places ≡ listed declaredRow = sym e ∙ ap (entryOf v) d ∙ declared-entry v in
       let row : places ≡ declaredRow = cc in
-      let none : bit 28 token ≡ 0 = eqb-true _ _ (only-zero (eqb (bits 31 29 token) 0) (controlsLaid DCL (controlsOf token)) (eqb (bit 28 token) 0) (isThird v) (hasDestination places) (rw d at laid)) in
+      let none : bit 28 token ≡ 0 = eqb-true _ _ (only-zero (eqb (bits 31 29 token) 0) (controlsLaid DCL (controlsOf token)) (eqb (bit 28 token) 0) (hasPredicates v) (hasDestination places) (rw d at laid)) in
       rw (none, row)
 
   pub row-few : ordered (withPredicate (isPredicated token) places) ≤ 5

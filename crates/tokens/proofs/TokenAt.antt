@@ -13,13 +13,13 @@ use Rattle.paper.specs.OperandTokens.{modifierOf, plainModifiers, predicateType
 use Rattle.versions.specs.Sets.{setOf, holds}
 use Rattle.versions.proofs.Sets.{Agrees, set-among}
 use Rattle.versions.proofs.Types.{type-small}
-use Rattle.places.specs.Places.{placeBy}
+use Rattle.places.specs.Places.{placeBy, onlyType}
 use Rattle.places.proofs.Places.{by-place}
 use Rattle.paper.specs.Numbers.{toldToken}
 use Rattle.paper.specs.declared.Version.{Version}
 use Rattle.paper.specs.declared.Token.the-variants.{Good}
 use Rattle.paper.proofs.Bools.{both-left, both-right}
-use Rattle.paper.specs.Places.{free, only, Place, raw, usage, declared, destination, source, condition, predicate, relative, freeSource, freeDestination, isRaw}
+use Rattle.paper.specs.Places.{free, only, Place, raw, usage, declared, destination, source, condition, predicate, relative, freeSource, freeDestination, isRaw, isDestination}
 use Rattle.tokens.specs.Plain.{plainSource, plainDestination}
 
 never : {A : Type 0} → _≡_ {A = Bool} false true → A
@@ -94,27 +94,27 @@ plain-destination-laid v token t₀ =
 -- the places that are neither kept as they stand nor free
 module _ (v : Version) (token : ℕ) where
   abbrev LaidDestination : ℕ → Place → Type 0
-  LaidDestination n p = isRaw p ≡ false → isFree p ≡ false → n / 32 ≡ 1 → laid v declared token ≡ laid v p token
+  LaidDestination n p = isRaw p ≡ false → isFree p ≡ false → isDestination p ≡ true → laid v declared token ≡ laid v p token
 
   pub typed-destination-at : (n : ℕ) → LaidDestination n (placeBy n)
   typed-destination-at =
-      by-place LaidDestination (λ r f h. never (sym r)) (λ r f h. never (sym r)) (λ r f h. refl) (λ r f h. refl) (λ r f h. never (sym f)) (λ r f h. absurd (omega (arith, h)))
-      (λ r f h. absurd (omega (arith, h))) (λ r f h. absurd (omega (arith, h))) (λ r f h. never (sym f)) (λ n u d r f h. refl) (λ n u d r f h. absurd (d h))
+      by-place LaidDestination (λ r f d. never d) (λ r f d. never d) (λ r f d. refl) (λ r f d. refl) (λ r f d. never (sym f)) (λ r f d. never d)
+      (λ r f d. never d) (λ r f d. never d) (λ r f d. never d) (λ n u h r f d. refl) (λ n u h r f d. never d)
 
   abbrev LaidSource : ℕ → Place → Type 0
   LaidSource n p =
-      isRaw p ≡ false → isFree p ≡ false → (n / 32 ≡ 1 → ⊥) → (n ≡ 93 → ⊥) → (n ≡ 94 → ⊥) → laid v condition token ≡ laid v p token
+      isRaw p ≡ false → isFree p ≡ false → isDestination p ≡ false → (n ≡ 93 → ⊥) → (n ≡ 94 → ⊥) → laid v condition token ≡ laid v p token
 
   pub typed-source-at : (n : ℕ) → LaidSource n (placeBy n)
   typed-source-at =
-      by-place LaidSource (λ r f h p e. never (sym r)) (λ r f h p e. never (sym r)) (λ r f h p e. absurd (h refl)) (λ r f h p e. absurd (h refl)) (λ r f h p e. never (sym f))
-      (λ r f h p e. refl) (λ r f h p e. absurd (p refl)) (λ r f h p e. absurd (e refl)) (λ r f h p e. never (sym f)) (λ n u d r f h p e. absurd (h d))
-      (λ n u d r f h p e. refl)
+      by-place LaidSource (λ r f d p e. never (sym r)) (λ r f d p e. never (sym r)) (λ r f d p e. never (sym d)) (λ r f d p e. never (sym d)) (λ r f d p e. never (sym f))
+      (λ r f d p e. refl) (λ r f d p e. absurd (p refl)) (λ r f d p e. absurd (e refl)) (λ r f d p e. never (sym f)) (λ n u h r f d p e. never (sym d))
+      (λ n u h r f d p e. refl)
 
   abbrev OneType : ℕ → Place → Type 0
   OneType n p =
       isRaw p ≡ false → isFree p ≡ false → (n ≡ 62 → ⊥) → (n ≡ 92 → ⊥) → (n ≡ 93 → ⊥) → (n ≡ 94 → ⊥) → (n ≡ 61 → ⊥) →
-      typed v p (typeOf token) ≡ among (typeOf token) (n % 32 ∷ [])
+      typed v p (typeOf token) ≡ among (typeOf token) (onlyType n ∷ [])
 
   pub one-type : (n : ℕ) → OneType n (placeBy n)
   one-type =

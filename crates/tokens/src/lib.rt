@@ -2,73 +2,45 @@
 ghost use mathlib.Core.Path.{_≡_};
 ghost use mathlib.Core.Bool.{true, false};
 ghost use mathlib.Core.List.{[], _∷_};
-ghost use Prim.Native.Nat.{_%_};
 ghost use Rattle.paper.specs.Notation.{among};
 ghost use Rattle.versions.specs.Sets.{holds};
-ghost use Rattle.places.specs.Places.{placeBy};
+ghost use Rattle.places.specs.Places.{placeBy, onlyType};
 ghost use Rattle.paper.specs.OperandTokens.{typeOf, isFree, laid, typed, layoutThenType, tokenAt, bringsRelative};
 ghost use Rattle.paper.specs.Numbers.{toldToken};
 ghost use Rattle.paper.specs.Places.{freeDestination, freeSource, relative, isRaw};
 ghost use Rattle.tokens.specs.Plain.{plainSource, plainDestination};
 use paper::Version;
 
-// Places, by their numbers in specs/Places.antt of the opcodes.
-const RAW: u64 = 1;
-
-const USAGE: u64 = 2;
-
-const DECLARED: u64 = 61;
-
-const KILLED: u64 = 62;
-
-// Places with a name are these and more in their lowest five bits: no register's type is.
-const NAMED: u64 = 28;
-
-const FREE_DESTINATION: u64 = 63;
-
-const CONDITION: u64 = 92;
-
-const PREDICATE: u64 = 93;
-
-const RELATIVE: u64 = 94;
-
-const FREE_SOURCE: u64 = 95;
-
 // Sets of register types: each raises its own bit.
 const KILLED_TYPES: u32 = 0b1001;
 
 const PREDICATE_TYPES: u32 = 0x8_0000;
-
-// What is told of a token that is not good: the number of its fault.
-const OPERAND: u64 = 7;
-
-const REGISTER: u64 = 8;
 
 // The layout at a place that is neither kept as it stands nor free.
 fn typed_laid(version: Version, place: u64, token: u32) -> bool
     requires { ⌜ (isRaw (placeBy place) ≡ false) × (isFree (placeBy place) ≡ false) ⌝ }
     ensures { λ r. ⌜ r ≡ laid version (placeBy place) token ⌝ }
 {
-    if place / 32 == 1 {
+    if places::is_destination(place) {
         return layout::typed_destination_laid(version, token);
     }
-    if place < PREDICATE {
+    if place < places::PREDICATE {
         return layout::typed_source_laid(version, token);
     }
-    if place == PREDICATE {
+    if place == places::PREDICATE {
         return layout::predicate_laid(version, token);
     }
-    if place == RELATIVE {
+    if place == places::RELATIVE {
         return layout::relative_laid(version, token);
     }
     layout::typed_source_laid(version, token)
 }
 
-// Whether a token's type is the one that its place's number has in its lowest five bits.
+// Whether a token's type is the one of its place.
 fn one_typed(place: u64, token: u32) -> bool
-    ensures { λ r. ⌜ r ≡ among (typeOf token) (place % 32 ∷ []) ⌝ }
+    ensures { λ r. ⌜ r ≡ among (typeOf token) (onlyType place ∷ []) ⌝ }
 {
-    versions::type_in(1 << (place % 32), token)
+    versions::type_in(1 << places::only_type(place), token)
 }
 
 // The type at such a place, those of one type first. DCL's types are told with its destination, in crate `dcl`.
@@ -76,44 +48,44 @@ fn typed_at(version: Version, place: u64, token: u32) -> bool
     requires { ⌜ (isRaw (placeBy place) ≡ false) × (isFree (placeBy place) ≡ false) ⌝ }
     ensures { λ r. ⌜ r ≡ typed version (placeBy place) (typeOf token) ⌝ }
 {
-    if place % 32 < NAMED {
+    if places::only_type(place) < places::NAMED {
         return one_typed(place, token);
     }
-    if place == KILLED {
+    if place == places::KILLED {
         return versions::type_in(KILLED_TYPES, token);
     }
-    if place == CONDITION {
+    if place == places::CONDITION {
         return versions::condition_typed(version, token);
     }
-    if place == PREDICATE {
+    if place == places::PREDICATE {
         return versions::type_in(PREDICATE_TYPES, token);
     }
-    if place == RELATIVE {
+    if place == places::RELATIVE {
         return versions::relative_typed(version, token);
     }
-    if place == DECLARED {
+    if place == places::DECLARED {
         return true;
     }
     one_typed(place, token)
 }
 
 // What is told of a token whose layout is right.
-fn told_typed(typed: bool) -> u64
+fn told_typed(typed: bool) -> u32
     ensures { λ r. ⌜ r ≡ toldToken (layoutThenType true typed) ⌝ }
 {
     if typed {
         return 0;
     }
-    REGISTER
+    paper::REGISTER
 }
 
-fn told_by_type(set: u32, token: u32) -> u64
+fn told_by_type(set: u32, token: u32) -> u32
     ensures { λ r. ⌜ r ≡ toldToken (layoutThenType true (holds set (typeOf token))) ⌝ }
 {
     if versions::type_in(set, token) {
         return 0;
     }
-    REGISTER
+    paper::REGISTER
 }
 
 // Most sources: no modifier or negation, not relative.
@@ -137,7 +109,7 @@ fn plain_destination(token: u32) -> bool
 }
 
 // What is told of a token at a free source: 0 if it is good.
-pub fn judge_source(version: Version, token: u32) -> u64
+pub fn judge_source(version: Version, token: u32) -> u32
     ensures { λ r. ⌜ r ≡ toldToken (tokenAt version freeSource token) ⌝ }
 {
     if plain_source(token) {
@@ -146,10 +118,10 @@ pub fn judge_source(version: Version, token: u32) -> u64
     if layout::free_source_laid(version, token) {
         return told_by_type(versions::free_source_types(version), token);
     }
-    OPERAND
+    paper::OPERAND
 }
 
-pub fn judge_destination(version: Version, token: u32) -> u64
+pub fn judge_destination(version: Version, token: u32) -> u32
     ensures { λ r. ⌜ r ≡ toldToken (tokenAt version freeDestination token) ⌝ }
 {
     if plain_destination(token) {
@@ -158,49 +130,42 @@ pub fn judge_destination(version: Version, token: u32) -> u64
     if layout::free_destination_laid(version, token) {
         return told_by_type(versions::free_destination_types(version), token);
     }
-    OPERAND
+    paper::OPERAND
 }
 
-pub fn judge_relative(version: Version, token: u32) -> u64
+pub fn judge_relative(version: Version, token: u32) -> u32
     ensures { λ r. ⌜ r ≡ toldToken (tokenAt version relative token) ⌝ }
 {
     if layout::relative_laid(version, token) {
         return told_typed(versions::relative_typed(version, token));
     }
-    OPERAND
-}
-
-// Whether a place's token is kept as it stands: R's, and U's, which is judged beside its destination.
-fn is_raw(place: u64) -> bool
-    ensures { λ r. ⌜ r ≡ isRaw (placeBy place) ⌝ }
-{
-    (place == RAW) | (place == USAGE)
+    paper::OPERAND
 }
 
 // What is told of a token at any place.
-pub fn judge_token(version: Version, place: u64, token: u32) -> u64
+pub fn judge_token(version: Version, place: u64, token: u32) -> u32
     ensures { λ r. ⌜ r ≡ toldToken (tokenAt version (placeBy place) token) ⌝ }
 {
-    if place == FREE_SOURCE {
+    if place == places::FREE_SOURCE {
         return judge_source(version, token);
     }
-    if place == FREE_DESTINATION {
+    if place == places::FREE_DESTINATION {
         return judge_destination(version, token);
     }
-    if is_raw(place) {
+    if places::is_raw(place) {
         return 0;
     }
     if typed_laid(version, place, token) {
         return told_typed(typed_at(version, place, token));
     }
-    OPERAND
+    paper::OPERAND
 }
 
 // Whether a relative token follows a token that is good at its place.
 pub fn brings_relative(place: u64, token: u32) -> bool
     ensures { λ r. ⌜ r ≡ bringsRelative (placeBy place) token ⌝ }
 {
-    if is_raw(place) {
+    if places::is_raw(place) {
         return false;
     }
     token / 0x2000 % 2 == 1

@@ -1,8 +1,9 @@
 -- What a number of specs/Numbered.antt tells, told back.
-use mathlib.Core.Path.{_≡_, refl}
+use mathlib.Core.Path.{_≡_, refl, ap}
 use mathlib.Core.Bool.{true, false}
 use Prim.Native.Nat.{ℕ, _+_, _*_, _/_, _%_}
 use native.Mathlib.Omega.{arith}
+use borrow.Author.Tests.{eqb-true, eqb-false}
 use Rattle.paper.specs.Numbers.{numberOf, reasonBy}
 use Rattle.paper.proofs.OneToOne.{reason-back, number-few}
 use Rattle.paper.specs.declared.Single.the-variants.{Comment, Plain, Break, Label, Return}
@@ -11,11 +12,13 @@ use Rattle.paper.specs.declared.Closer.the-variants.{Else, EndIf, EndLoop, EndR
 use Rattle.paper.specs.declared.Refusal.{Refusal}
 use Rattle.paper.specs.declared.Class.{Class}
 use Rattle.paper.specs.declared.Class.the-variants.{One, Opens, Closes}
+use Rattle.paper.specs.declared.Taken.{Taken}
+use Rattle.paper.specs.declared.Taken.the-variants.{Took, Refused as not-taken}
 use Rattle.paper.specs.declared.Judged.{Judged}
 use Rattle.paper.specs.declared.Judged.the-variants.{Good, Refused}
 use Rattle.opcodes.specs.Classes.{classNumber}
 use Rattle.opcodes.proofs.Shapes.{class-few}
-use Rattle.told.specs.Numbered.{refusalNumber, judgedNumber, isRefusal, sizeIn, kindIn, classBy, judgedFrom}
+use Rattle.told.specs.Numbered.{refusalNumber, judgedNumber, takenNumber, isRefusal, takenIn, sizeIn, kindIn, classBy, judgedFrom}
 
 class-back : (c : Class) → classBy (classNumber c) ≡ c
 class-back (One Comment) = refl
@@ -64,3 +67,12 @@ pub judged-back : (j : Judged) → judgedFrom (judgedNumber j) ≡ j
 unfolding judgedFrom
 judged-back (Good size class) = rw (yes-even size class, yes-size size class, yes-class size class, class-back class)
 judged-back (Refused r) = rw (refusal-odd r, refusal-position r, refusal-reason r)
+
+-- an even number tells how many tokens an operand takes, an odd one its refusal
+pub taken-even : (t : Taken) (n : ℕ) → n ≡ takenNumber t → isRefusal n ≡ false → t ≡ Took (takenIn n)
+taken-even (Took m) n e even = ap Took (omega arith)
+taken-even (not-taken r) n e even = absurd (omega (arith, eqb-false (n % 2) 1 even))
+
+pub taken-odd : (t : Taken) (n : ℕ) → n ≡ takenNumber t → isRefusal n ≡ true → (r : Refusal) × (t ≡ not-taken r) × (n ≡ refusalNumber r)
+taken-odd (Took m) n e odd = absurd (omega (arith, eqb-true (n % 2) 1 odd))
+taken-odd (not-taken r) n e odd = (r, refl, e)

@@ -1,2 +1,2 @@
--- What is told of an instruction, as the code hands it on.
+-- What is told of an instruction and of its operands, as the code hands it on.
 pub mod Numbered

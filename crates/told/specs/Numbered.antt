@@ -1,4 +1,4 @@
--- What is told of an instruction, as one number, which a machine hands on in a register: a yes is even, a refusal odd.
+-- What is told of an instruction and of its operands, as one number, which a machine hands on in a register: a yes is even, a refusal odd.
 use Prim.Native.Nat.{ℕ, _+_, _*_, _/_, _%_}
 use mathlib.Core.Bool.{Bool}
 use lib.Dec.{eqb}
@@ -11,6 +11,10 @@ use Rattle.paper.specs.declared.Opener.the-variants.{If, Loop, Rep}
 use Rattle.paper.specs.declared.Closer.the-variants.{Else, EndIf, EndLoop, EndRep, End}
 use Rattle.paper.specs.declared.Class.{Class}
 use Rattle.paper.specs.declared.Class.the-variants.{One, Opens, Closes}
+use Rattle.paper.specs.declared.Taken.{Taken}
+use Rattle.paper.specs.declared.Taken.the-variants.{Took, Refused as not-taken}
+use Rattle.paper.specs.declared.Operands.{Operands}
+use Rattle.paper.specs.declared.Operands.the-variants.{Fit, Refused as unfit}
 use Rattle.paper.specs.declared.Judged.{Judged}
 use Rattle.paper.specs.declared.Judged.the-variants.{Good, Refused}
 
@@ -29,10 +33,25 @@ abbrev pub judgedNumber : Judged → ℕ
 judgedNumber (Good size class) = yesNumber size (classNumber class)
 judgedNumber (Refused r) = refusalNumber r
 
--- back from the number: whether it is a refusal's; the size, and a refusal's position; the number of the class, and a refusal's; whether it
+-- an operand that takes so many tokens; operands that fit
+abbrev pub tookNumber : ℕ → ℕ
+tookNumber n = 2 * n
+
+abbrev pub takenNumber : Taken → ℕ
+takenNumber (Took n) = tookNumber n
+takenNumber (not-taken r) = refusalNumber r
+
+abbrev pub operandsNumber : Operands → ℕ
+operandsNumber Fit = 0
+operandsNumber (unfit r) = refusalNumber r
+
+-- back from the number: whether it is a refusal's; the tokens that an operand takes; the size, and a refusal's position; the number of the class, and a refusal's; whether it
 -- is the yes of a plain instruction, which has class 1
 abbrev pub isRefusal : ℕ → Bool
 isRefusal told = eqb (told % 2) 1
+
+abbrev pub takenIn : ℕ → ℕ
+takenIn told = told / 2
 
 abbrev pub sizeIn : ℕ → ℕ
 sizeIn told = told / 32

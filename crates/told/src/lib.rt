@@ -1,7 +1,7 @@
-// What is told of an instruction, one number, made and read back: a yes is even, a refusal odd. No other crate knows what its bits are.
+// What is told of an instruction and of its operands, one number, made and read back: a yes is even, a refusal odd. No other crate knows what its bits are.
 ghost use mathlib.Core.Path.{_≡_};
 ghost use Rattle.paper.specs.Numbers.{numberOf, reasonBy, refusal, toldInstruction};
-ghost use Rattle.told.specs.Numbered.{yesNumber, faultNumber, refusalNumber, isRefusal, sizeIn, kindIn, isPlain, classBy, judgedFrom};
+ghost use Rattle.told.specs.Numbered.{yesNumber, faultNumber, refusalNumber, isRefusal, takenIn, sizeIn, kindIn, isPlain, classBy, judgedFrom};
 use paper::Class;
 use paper::Closer;
 use paper::Judged;
@@ -19,6 +19,13 @@ const WHOLE: u64 = HALF * KINDS;
 
 // The class of a plain instruction, as a yes of any size has it.
 const PLAIN: u64 = HALF;
+
+// Operands that fit; an operand that takes one token, and one that takes two.
+pub const FIT: u64 = 0;
+
+pub const ONE_TAKEN: u64 = HALF;
+
+pub const TWO_TAKEN: u64 = 2 * HALF;
 
 // The classes of a comment and of END, which no row of the table has.
 pub const COMMENT: u32 = 0;
@@ -57,6 +64,13 @@ pub fn is_plain(told: u64) -> bool
     ensures { λ r. ⌜ r ≡ isPlain told ⌝ }
 {
     told % WHOLE == PLAIN
+}
+
+// How many tokens an operand takes.
+pub fn taken_of(told: u64) -> usize
+    ensures { λ r. ⌜ r ≡ takenIn told ⌝ }
+{
+    (told / HALF) as usize
 }
 
 // How many tokens a yes takes behind the first; of a refusal, its position.

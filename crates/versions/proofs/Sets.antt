@@ -7,17 +7,17 @@ use Rattle.paper.specs.Notation.{among}
 use Rattle.paper.proofs.Below.{below, below-at}
 use Rattle.versions.specs.Sets.{setOf, holds}
 
-abbrev same : Bool → Bool → Bool
+abbrev pub same : Bool → Bool → Bool
 same true b = b
 same false b = not b
 
-same-true : (a b : Bool) → same a b ≡ true → a ≡ b
+pub same-true : (a b : Bool) → same a b ≡ true → a ≡ b
 same-true true true t = refl
 same-true true false t = sym t
 same-true false true t = t
 same-true false false t = refl
 
-abbrev agrees : List ℕ → ℕ → Bool
+abbrev pub agrees : List ℕ → ℕ → Bool
 agrees ks k = same (holds (setOf ks) k) (among k ks)
 
 -- the test of one list, by computation

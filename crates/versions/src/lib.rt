@@ -1,14 +1,171 @@
-// Versions, and what each allows to operands: document 01, "What the build does" and "Operand tokens".
+// Versions, and what each has: document 01, "What the build does", and what its other sections say of versions.
 ghost use mathlib.Core.Path.{_≡_};
-ghost use mathlib.Core.Bool.{not};
 ghost use Prim.Native.Nat.{_<_};
 ghost use Rattle.paper.specs.Notation.{among};
-ghost use Rattle.versions.specs.Sets.{setOf, holds};
-ghost use Rattle.paper.specs.Versions.{named, isPixel, isThird};
+ghost use Rattle.paper.specs.Versions.{has, named, isPixel, hasPredicates};
 ghost use Rattle.paper.specs.Numbers.{toldNamed};
 ghost use Rattle.paper.specs.OperandTokens.{relativeSources, relativeDestinations, typeOf, freeDestinationTypes, freeSourceTypes, conditionTypes, relativeTypes};
+ghost use Rattle.paper.specs.Dcl.{declaresFace};
+ghost use Rattle.versions.specs.Sets.{setOf, holds};
+ghost use Rattle.versions.specs.Rows.{formOf, rank, rowNumber, Tells};
+ghost use Rattle.versions.specs.Names.{Names};
 use paper::Named;
 use paper::Version;
+
+fn found_by(token: u32) -> Named
+    ensures { λ r. ⌜ Names r token ⌝ }
+{
+    match token {
+        0xFFFE_0200 => Named::Known(Version::V2),
+        0xFFFE_0300 => Named::Known(Version::V3),
+        0xFFFF_0200 => Named::Known(Version::P2),
+        0xFFFF_0300 => Named::Known(Version::P3),
+        _ => Named::Unknown,
+    }
+}
+
+pub fn version_of(token: u32) -> Named
+    ensures { λ r. ⌜ toldNamed r ≡ toldNamed (named token) ⌝ }
+{
+    found_by(token)
+}
+
+// What a version has, one number of specs/Rows.antt for each: a bit for each property, and the rank.
+const PIXEL: u64 = 0x100_0000_0000;
+
+const PREDICATES: u64 = 0x200_0000_0000;
+
+const RELATIVE_SOURCES: u64 = 0x400_0000_0000;
+
+const RELATIVE_DESTINATIONS: u64 = 0x800_0000_0000;
+
+const ADDRESSES: u64 = 0x1000_0000_0000;
+
+const FACE: u64 = 0x2000_0000_0000;
+
+const RANK: u64 = 0x4000_0000_0000;
+
+// Below them, a digit of base 4 for each register type: the form of U that DCL takes with it. These are the types that are declared.
+const INPUT: u64 = 1 << 2;
+
+const TEXTURE: u64 = 1 << 6;
+
+const OUTPUT: u64 = 1 << 12;
+
+const SAMPLER: u64 = 1 << 20;
+
+const MISCELLANEOUS: u64 = 1 << 34;
+
+const FORMS: u64 = 4;
+
+pub const NO_FORM: u64 = 0;
+
+pub const SAMPLER_FORM: u64 = 1;
+
+pub const PLAIN_FORM: u64 = 2;
+
+pub const USAGE_FORM: u64 = 3;
+
+const VS_2_0: u64 = USAGE_FORM * INPUT + RELATIVE_SOURCES + ADDRESSES;
+
+const VS_3_0: u64 = SAMPLER_FORM * SAMPLER
+    + USAGE_FORM * (INPUT + OUTPUT)
+    + PREDICATES
+    + RELATIVE_SOURCES
+    + RELATIVE_DESTINATIONS
+    + ADDRESSES
+    + RANK;
+
+const PS_2_0: u64 = SAMPLER_FORM * SAMPLER
+    + PLAIN_FORM * (INPUT + TEXTURE)
+    + PIXEL
+    + ADDRESSES
+    + 2 * RANK;
+
+const PS_3_0: u64 = SAMPLER_FORM * SAMPLER
+    + PLAIN_FORM * MISCELLANEOUS
+    + USAGE_FORM * (INPUT + TEXTURE)
+    + PIXEL
+    + PREDICATES
+    + RELATIVE_SOURCES
+    + FACE
+    + 3 * RANK;
+
+fn row_of(version: Version) -> u64
+    ensures { λ r. ⌜ r ≡ rowNumber version ⌝ }
+{
+    match version {
+        Version::V2 => VS_2_0,
+        Version::V3 => VS_3_0,
+        Version::P2 => PS_2_0,
+        Version::P3 => PS_3_0,
+    }
+}
+
+fn told_of(version: Version) -> u64
+    ensures { λ r. ⌜ Tells version r ⌝ }
+{
+    row_of(version)
+}
+
+pub fn is_pixel(version: Version) -> bool
+    ensures { λ r. ⌜ r ≡ isPixel version ⌝ }
+{
+    told_of(version) / PIXEL % 2 == 1
+}
+
+pub fn has_predicates(version: Version) -> bool
+    ensures { λ r. ⌜ r ≡ hasPredicates version ⌝ }
+{
+    told_of(version) / PREDICATES % 2 == 1
+}
+
+pub fn relative_sources(version: Version) -> bool
+    ensures { λ r. ⌜ r ≡ relativeSources version ⌝ }
+{
+    told_of(version) / RELATIVE_SOURCES % 2 == 1
+}
+
+pub fn relative_destinations(version: Version) -> bool
+    ensures { λ r. ⌜ r ≡ relativeDestinations version ⌝ }
+{
+    told_of(version) / RELATIVE_DESTINATIONS % 2 == 1
+}
+
+// Whether a relative token may be an address register.
+fn has_addresses(version: Version) -> bool
+    ensures { λ r. ⌜ r ≡ has version .addresses ⌝ }
+{
+    told_of(version) / ADDRESSES % 2 == 1
+}
+
+pub fn declares_face(version: Version) -> bool
+    ensures { λ r. ⌜ r ≡ declaresFace version ⌝ }
+{
+    told_of(version) / FACE % 2 == 1
+}
+
+// Which bit of a row of the opcode table is the version's.
+pub fn rank_of(version: Version) -> u32
+    ensures { λ r. ⌜ r ≡ rank version ⌝ }
+{
+    (told_of(version) / RANK) as u32
+}
+
+pub fn type_of(token: u32) -> u32
+    ensures is { λ r. ⌜ r ≡ typeOf token ⌝ }
+    ensures below { λ r. ⌜ r < 32 ⌝ }
+{
+    token / 0x1000_0000 % 8 + 8 * (token / 0x800 % 4)
+}
+
+// Whether a token's register type is one of a set.
+pub fn type_in(set: u32, token: u32) -> bool
+    ensures { λ r. ⌜ r ≡ holds set (typeOf token) ⌝ }
+{
+    let kind = type_of(token);
+    (set >> kind) % 2 == 1
+}
 
 // Sets of register types: each raises its own bit.
 const PIXEL_DESTINATIONS: u32 = 0b11_0000_0001;
@@ -26,84 +183,7 @@ const BOOLEAN: u32 = 14;
 
 const COUNTER: u32 = 15;
 
-const PREDICATE_REGISTER: u32 = 19;
-
-pub fn version_of(token: u32) -> Named
-    ensures { λ r. ⌜ toldNamed r ≡ toldNamed (named token) ⌝ }
-{
-    if token == 0xFFFE_0200 {
-        return Named::Known(Version::V2);
-    }
-    if token == 0xFFFE_0300 {
-        return Named::Known(Version::V3);
-    }
-    if token == 0xFFFF_0200 {
-        return Named::Known(Version::P2);
-    }
-    if token == 0xFFFF_0300 {
-        return Named::Known(Version::P3);
-    }
-    Named::Unknown
-}
-
-pub fn is_pixel(version: Version) -> bool
-    ensures { λ r. ⌜ r ≡ isPixel version ⌝ }
-{
-    match version {
-        Version::V2 => false,
-        Version::V3 => false,
-        Version::P2 => true,
-        Version::P3 => true,
-    }
-}
-
-fn is_third(version: Version) -> bool
-    ensures { λ r. ⌜ r ≡ isThird version ⌝ }
-{
-    match version {
-        Version::V2 => false,
-        Version::V3 => true,
-        Version::P2 => false,
-        Version::P3 => true,
-    }
-}
-
-pub fn relative_sources(version: Version) -> bool
-    ensures { λ r. ⌜ r ≡ relativeSources version ⌝ }
-{
-    match version {
-        Version::V2 => true,
-        Version::V3 => true,
-        Version::P2 => false,
-        Version::P3 => true,
-    }
-}
-
-pub fn relative_destinations(version: Version) -> bool
-    ensures { λ r. ⌜ r ≡ relativeDestinations version ⌝ }
-{
-    match version {
-        Version::V2 => false,
-        Version::V3 => true,
-        Version::P2 => false,
-        Version::P3 => false,
-    }
-}
-
-pub fn type_of(token: u32) -> u32
-    ensures is { λ r. ⌜ r ≡ typeOf token ⌝ }
-    ensures below { λ r. ⌜ r < 32 ⌝ }
-{
-    token / 0x1000_0000 % 8 + 8 * (token / 0x800 % 4)
-}
-
-// Whether a token's register type is one of a set.
-pub fn type_in(set: u32, token: u32) -> bool
-    ensures { λ r. ⌜ r ≡ holds set (typeOf token) ⌝ }
-{
-    let kind = type_of(token);
-    (set >> kind) % 2 == 1
-}
+const PREDICATE: u32 = 19;
 
 pub fn free_destination_types(version: Version) -> u32
     ensures { λ r. ⌜ r ≡ setOf (freeDestinationTypes version) ⌝ }
@@ -125,40 +205,32 @@ pub fn free_source_types(version: Version) -> u32
     }
 }
 
+// The form of U that DCL takes with a token's register type.
+pub fn form_of(version: Version, token: u32) -> u64
+    ensures { λ r. ⌜ r ≡ formOf version (typeOf token) ⌝ }
+{
+    let row = told_of(version);
+    let kind = type_of(token);
+    ((row % PIXEL) >> (2 * kind)) % FORMS
+}
+
 pub fn condition_typed(version: Version, token: u32) -> bool
     ensures { λ r. ⌜ r ≡ among (typeOf token) (conditionTypes version) ⌝ }
 {
     let kind = type_of(token);
-    if kind == BOOLEAN {
-        return true;
+    if kind == PREDICATE {
+        return has_predicates(version);
     }
-    if kind == PREDICATE_REGISTER {
-        return is_third(version);
-    }
-    false
+    kind == BOOLEAN
 }
 
-// "P3: 15 only"
-fn counter_only(version: Version) -> bool
-    ensures { λ r. ⌜ not r ≡ among 3 (relativeTypes version) ⌝ }
-{
-    match version {
-        Version::V2 => false,
-        Version::V3 => false,
-        Version::P2 => false,
-        Version::P3 => true,
-    }
-}
-
+// "type 3 or 15 (P3: 15 only)"
 pub fn relative_typed(version: Version, token: u32) -> bool
     ensures { λ r. ⌜ r ≡ among (typeOf token) (relativeTypes version) ⌝ }
 {
     let kind = type_of(token);
-    if kind == COUNTER {
-        return true;
-    }
     if kind == ADDRESS {
-        return !counter_only(version);
+        return has_addresses(version);
     }
-    false
+    kind == COUNTER
 }

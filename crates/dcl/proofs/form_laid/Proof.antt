@@ -1,37 +1,68 @@
-use Rattle.dcl.proofs.Declarations.{sampler-types, plain-types}
+use mathlib.Core.Path.{sym, _∙_}
+use native.Mathlib.Nat.{div-one}
 use borrow.Author.Needs.{needs}
+use borrow.Author.Tests.{eq-eqb, ne-eqb}
+use Rattle.dcl.proofs.Declarations.{form-laid}
 use Rattle.dcl.proofs.form_laid.Statement.{statement}
 use Rattle.dcl.proofs.form_laid.Tie as tie
 
-sampler-types-requires : tie.Need-sampler-types-requires
-sampler-types-requires c κs = search needs
+form-of-requires : tie.Need-form-of-requires
+form-of-requires c κs = search needs
 
-type-in-requires : tie.Need-type-in-requires
-type-in-requires c κs = search needs
+sampler-form-requires : tie.Need-sampler-form-requires
+sampler-form-requires c κs = search needs
 
-plain-types-requires : tie.Need-plain-types-requires
-plain-types-requires c κs = search needs
+returns : tie.Need-returns
+returns c =
+    let s = c .before .before in
+    rw (form-laid _ _ _, sym (s .form-of .ensures) ∙ c .before .if1 .taken) (c .sampler-form .ensures)
 
-type-in-requires-2 : tie.Need-type-in-requires-2
-type-in-requires-2 c κs = search needs
+returns-2 : tie.Need-returns-2
+returns-2 c =
+    let s = c .before .before in
+    rw (form-laid _ _ _, sym (s .form-of .ensures) ∙ c .if2 .taken, div-one (s .before .args .usage))
 
 is-pixel-requires : tie.Need-is-pixel-requires
 is-pixel-requires c κs = search needs
 
-form-by-requires : tie.Need-form-by-requires
-form-by-requires c κs = search needs
+pixel-usage-requires : tie.Need-pixel-usage-requires
+pixel-usage-requires c κs = search needs
 
-returns : tie.Need-returns
-returns c = rw (c .form-by .ensures, c .before .is-pixel .ensures, c .before .before .type-in2 .ensures, c .before .before .before .plain-types .ensures, c .before .before .before .before .type-in .ensures, c .before .before .before .before .before .sampler-types .ensures, sampler-types _ _, plain-types _ _)
+returns-3 : tie.Need-returns-3
+returns-3 c =
+    let s = c .before .before in
+    rw (
+      form-laid _ _ _,
+      ← (s .before .before .before .form-of .ensures),
+      ne-eqb _ _ (s .before .before .if1 .left),
+      ne-eqb _ _ (s .before .if2 .left),
+      sym (s .is-pixel .ensures) ∙ c .before .if3 .taken,
+    ) (c .pixel-usage .ensures)
+
+vertex-usage-requires : tie.Need-vertex-usage-requires
+vertex-usage-requires c κs = search needs
+
+returns-4 : tie.Need-returns-4
+returns-4 c =
+    let s = c .before .before in
+    rw (
+      form-laid _ _ _,
+      ← (s .before .before .before .form-of .ensures),
+      ne-eqb _ _ (s .before .before .if1 .left),
+      ne-eqb _ _ (s .before .if2 .left),
+      sym (s .is-pixel .ensures) ∙ c .before .if3 .left,
+    ) (c .vertex-usage .ensures)
 
 pub form-laid-spec : {M : Type 1} → statement M
 form-laid-spec =
     tie.close
     (tie.spec
-    sampler-types-requires
-    type-in-requires
-    plain-types-requires
-    type-in-requires-2
+    form-of-requires
+    sampler-form-requires
+    returns
+    returns-2
     is-pixel-requires
-    form-by-requires
-    returns)
+    pixel-usage-requires
+    returns-3
+    vertex-usage-requires
+    returns-4)

@@ -7,11 +7,11 @@ use Rattle.instruction.proofs.judge_claimed.Tie as tie
 opcode-of-requires : tie.Need-opcode-of-requires
 opcode-of-requires c κs = search needs
 
-judge-declared-requires : tie.Need-judge-declared-requires
-judge-declared-requires c κs = search needs
+judge-declaration-requires : tie.Need-judge-declaration-requires
+judge-declaration-requires c κs = search needs
 
 returns : tie.Need-returns
-returns c = rw (eq-eqb _ _ (sym (c .before .before .opcode-of .ensures) ∙ c .before .if1 .taken)) (c .judge-declared .ensures)
+returns c = rw (eq-eqb _ _ (sym (c .before .before .opcode-of .ensures) ∙ c .before .if1 .taken)) (c .judge-declaration .ensures)
 
 places-of-requires : tie.Need-places-of-requires
 places-of-requires c κs = search needs
@@ -29,7 +29,7 @@ judge-claimed-spec =
     tie.close
     (tie.spec
     opcode-of-requires
-    judge-declared-requires
+    judge-declaration-requires
     returns
     places-of-requires
     judge-operands-requires

@@ -32,20 +32,20 @@ slice-aggregate-judge-claimed c =
 judge-claimed-requires : tie.Need-judge-claimed-requires
 judge-claimed-requires c κs = search needs
 
-cast-yes : tie.Need-cast-yes
-cast-yes c = search needs
+class-in-requires : tie.Need-class-in-requires
+class-in-requires c κs = search needs
 
 yes-requires : tie.Need-yes-requires
 yes-requires c κs = search needs
 
 returns-2 : tie.Need-returns-2
 returns-2 c =
-    let g = c .before .before .before .before .before .before .before .args in
-    let claim = c .before .before .before .before .before .claim-of in
-    rw (← (claim .ensures), le-leb _ _ (c .before .before .before .before .if1 .left))
+    let g = c .before .before .before .before .before .before .before .before .args in
+    let claim = c .before .before .before .before .before .before .claim-of in
+    rw (← (claim .ensures), le-leb _ _ (c .before .before .before .before .before .if1 .left))
     (c .yes .ensures
-    ∙ ap (yesNumber (claim .result)) (c .before .before .before .before .before .before .before .pre)
-    ∙ sym (operands-number (operandsOf (g .version) (opcodeOf (g .first)) (placesIn (g .shape) (g .first)) (take (claim .result) (g .behind .now))) _ _ (classOf (opcodeOf (g .first))) (c .before .before .judge-claimed .ensures) (c .before .if2 .taken)))
+    ∙ ap (yesNumber (claim .result)) (c .before .class-in .ensures ∙ c .before .before .before .before .before .before .before .before .pre)
+    ∙ sym (operands-number (operandsOf (g .version) (opcodeOf (g .first)) (placesIn (g .shape) (g .first)) (take (claim .result) (g .behind .now))) _ _ (classOf (opcodeOf (g .first))) (c .before .before .before .judge-claimed .ensures) (c .before .before .if2 .taken)))
 
 returns-3 : tie.Need-returns-3
 returns-3 c =
@@ -64,7 +64,7 @@ judge-listed-spec =
     returns
     slice-aggregate-judge-claimed
     judge-claimed-requires
-    cast-yes
+    class-in-requires
     yes-requires
     returns-2
     returns-3)

@@ -8,17 +8,35 @@ use Rattle.instruction_token.proofs.bits_laid.Tie as tie
 has-zeros-requires : tie.Need-has-zeros-requires
 has-zeros-requires c κs = search needs
 
+rule-in-requires : tie.Need-rule-in-requires
+rule-in-requires c κs = search needs
+
 returns : tie.Need-returns
 returns c =
-    let g = c .before .before .args in
-    sym (zeros-laid (g .shape) (g .token) (sym (c .before .has-zeros .ensures) ∙ c .if1 .taken))
+    let g = c .before .before .before .args in
+    rw (zeros-laid (g .shape) (g .token) (sym (c .before .before .has-zeros .ensures) ∙ c .before .if1 .taken), ← (c .rule-in .ensures))
+
+rule-in-requires-2 : tie.Need-rule-in-requires-2
+rule-in-requires-2 c κs = search needs
 
 controls-laid-requires : tie.Need-controls-laid-requires
 controls-laid-requires c κs = search needs
 
+step-in-requires : tie.Need-step-in-requires
+step-in-requires c κs = search needs
+
 returns-2 : tie.Need-returns-2
 unfolding bitsBy
-returns-2 c = rw (c .controls-laid .ensures)
+returns-2 c = rw (c .step-in .ensures, c .before .controls-laid .ensures, c .before .before .rule-in2 .ensures)
 
 pub bits-laid-spec : {M : Type 1} → statement M
-bits-laid-spec = tie.close (tie.spec has-zeros-requires returns controls-laid-requires returns-2)
+bits-laid-spec =
+    tie.close
+    (tie.spec
+    has-zeros-requires
+    rule-in-requires
+    returns
+    rule-in-requires-2
+    controls-laid-requires
+    step-in-requires
+    returns-2)

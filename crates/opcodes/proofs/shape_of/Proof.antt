@@ -7,19 +7,24 @@ use Rattle.paper.specs.OpcodeTable.{rows}
 use Rattle.paper.specs.Blocks.{classes, classOf}
 use Rattle.paper.specs.Places.{entryOf, typedPlaces}
 use Rattle.opcodes.specs.Shape.{shapeOf}
-use Rattle.opcodes.proofs.Table.{rank-small, found, looked-up}
+use Rattle.versions.proofs.Rows.{rank-small}
+use Rattle.opcodes.proofs.Table.{found, looked-up}
 use Rattle.opcodes.proofs.shape_of.Statement.{statement}
 use Rattle.opcodes.proofs.shape_of.Tie as tie
 
 -- each way through the code is one of the choices of `found`
 looks : (c : tie.After-row-of) →
-    found (c .before .rank-of .result) (c .before .before .args .opcode) (c .row-of .result)
-    ≡ shapeOf (c .before .before .args .version) (c .before .before .args .opcode)
+    let g = c .before .before .before .args in
+    found (c .before .before .rank-of .result) (c .before .has-predicates .result) (g .opcode) (c .row-of .result) ≡ shapeOf (g .version) (g .opcode)
 looks c =
-    looked-up (c .before .before .args .version) (c .before .before .args .opcode) _ _ (c .before .rank-of .ensures) (c .row-of .ensures)
+    let g = c .before .before .before .args in
+    looked-up (g .version) (g .opcode) _ _ _ (c .before .before .rank-of .ensures) (c .before .has-predicates .ensures) (c .row-of .ensures)
 
 rank-of-requires : tie.Need-rank-of-requires
 rank-of-requires c κs = search needs
+
+has-predicates-requires : tie.Need-has-predicates-requires
+has-predicates-requires c κs = search needs
 
 row-of-requires : tie.Need-row-of-requires
 row-of-requires c κs = search needs
@@ -28,7 +33,7 @@ cast-if1 : tie.Need-cast-if1
 cast-if1 c = search needs
 
 shr-if1 : tie.Need-shr-if1
-shr-if1 c = omega (arith, rank-small (c .before .before .args .version) _ (c .before .rank-of .ensures))
+shr-if1 c = omega (arith, rank-small (c .before .before .before .args .version))
 
 returns : tie.Need-returns
 unfolding rows entryOf typedPlaces classOf classes shapeOf
@@ -38,7 +43,7 @@ returns-2 : tie.Need-returns-2
 returns-2 c = rw (eq-eqb _ _ (c .before .if1 .taken), c .if2 .left) at (looks (c .before .before))
 
 returns-3 : tie.Need-returns-3
-returns-3 c = rw (ne-eqb _ _ (c .before .if1 .left), eq-eqb _ _ (c .if3 .taken)) at (looks (c .before .before))
+returns-3 c = rw (ne-eqb _ _ (c .before .if1 .left), c .if3 .taken) at (looks (c .before .before))
 
 mul-result : tie.Need-mul-result
 mul-result c = search needs
@@ -47,9 +52,20 @@ add-result : tie.Need-add-result
 add-result c = search needs
 
 returns-4 : tie.Need-returns-4
-returns-4 c = rw (ne-eqb _ _ (c .before .if1 .left), ne-eqb _ _ (c .if3 .left)) at (looks (c .before .before))
+returns-4 c = rw (ne-eqb _ _ (c .before .if1 .left), c .if3 .left) at (looks (c .before .before))
 
 pub shape-of-spec : {M : Type 1} → statement M
 shape-of-spec =
     tie.close
-    (tie.spec rank-of-requires row-of-requires cast-if1 shr-if1 returns returns-2 returns-3 mul-result add-result returns-4)
+    (tie.spec
+    rank-of-requires
+    has-predicates-requires
+    row-of-requires
+    cast-if1
+    shr-if1
+    returns
+    returns-2
+    returns-3
+    mul-result
+    add-result
+    returns-4)

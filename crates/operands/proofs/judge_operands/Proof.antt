@@ -1,12 +1,13 @@
 use mathlib.Core.Path.{_≡_, refl, sym, ap, _∙_}
 use Prim.Native.Nat.{_+_, _*_, _%_, _≤_}
 use native.Mathlib.Omega.{arith}
+use borrow.Author.Needs.{needs}
 use lib.ListN.{length, drop}
 use Rattle.paper.specs.Instruction.{operand, operands}
 use Rattle.places.specs.Places.{placeBy, decoded}
-use Rattle.operands.specs.Numbered.{operandsNumber}
+use Rattle.told.specs.Numbered.{operandsNumber}
+use Rattle.told.proofs.Numbers.{taken-even, taken-odd}
 use Rattle.operands.proofs.OperandAt.{operand-within, operand-few, decoded-few, decoded-less, operands-on, operands-refused, operands-fit, operands-over}
-use Rattle.operands.proofs.Numbers.{taken-even, taken-odd}
 use Rattle.operands.proofs.judge_operands.Statement.{statement}
 use Rattle.operands.proofs.judge_operands.Tie as tie
 
@@ -26,20 +27,28 @@ loop-holds c = (omega arith, omega arith, omega (arith, decoded-few (c .before .
 take-operand-requires : tie.Need-take-operand-requires Inv-loop μ-loop
 take-operand-requires c κs = (omega arith, omega arith)
 
+is-refused-requires : tie.Need-is-refused-requires Inv-loop μ-loop
+is-refused-requires c κs = search needs
+
 returns : tie.Need-returns Inv-loop μ-loop
 returns c =
-    let g = c .before .before .before .before .before .args in
-    let l = c .before .before .before .loop in
-    let odd = taken-odd (operand (g .version) (placeBy (l .left % 128)) (l .at + 1) (drop (l .at) (g .behind .now))) _ (c .before .take-operand .ensures) (c .if1 .taken) in
+    let s = c .before .before .before in
+    let g = s .before .before .before .args in
+    let l = s .before .loop in
+    let odd = taken-odd (operand (g .version) (placeBy (l .left % 128)) (l .at + 1) (drop (l .at) (g .behind .now))) _ (c .before .before .take-operand .ensures) (sym (c .before .is-refused .ensures) ∙ c .if1 .taken) in
     odd .2
     ∙ ap operandsNumber
-    (sym (operands-refused (g .version) (l .left) (l .at) (g .behind .now) (omega arith) (c .before .before .loop-test .taken) _ (odd .1)) ∙ l .inv .3)
+    (sym (operands-refused (g .version) (l .left) (l .at) (g .behind .now) (omega arith) (s .loop-test .taken) _ (odd .1)) ∙ l .inv .3)
+
+taken-of-requires : tie.Need-taken-of-requires Inv-loop μ-loop
+taken-of-requires c κs = search needs
 
 add-at : tie.Need-add-at Inv-loop μ-loop
 add-at c =
-    let g = c .before .before .before .before .before .args in
-    let l = c .before .before .before .loop in
-    let took = taken-even (operand (g .version) (placeBy (l .left % 128)) (l .at + 1) (drop (l .at) (g .behind .now))) _ (c .before .take-operand .ensures) (c .if1 .left) in
+    let s = c .before .before .before .before in
+    let g = s .before .before .before .args in
+    let l = s .before .loop in
+    let took = taken-even (operand (g .version) (placeBy (l .left % 128)) (l .at + 1) (drop (l .at) (g .behind .now))) _ (c .before .before .before .take-operand .ensures) (sym (c .before .before .is-refused .ensures) ∙ c .before .if1 .left) in
     let within = operand-within (g .version) (placeBy (l .left % 128)) (l .at + 1) _ (l .at) (g .behind .now) (l .inv .0) took in
     omega arith
 
@@ -48,16 +57,17 @@ loop-less c = omega arith
 
 loop-again : tie.Need-loop-again Inv-loop μ-loop
 loop-again c =
-    let g = c .before .before .before .before .before .args in
-    let l = c .before .before .before .loop in
-    let took = taken-even (operand (g .version) (placeBy (l .left % 128)) (l .at + 1) (drop (l .at) (g .behind .now))) _ (c .before .take-operand .ensures) (c .if1 .left) in
+    let s = c .before .before .before .before in
+    let g = s .before .before .before .args in
+    let l = s .before .loop in
+    let took = taken-even (operand (g .version) (placeBy (l .left % 128)) (l .at + 1) (drop (l .at) (g .behind .now))) _ (c .before .before .before .take-operand .ensures) (sym (c .before .before .is-refused .ensures) ∙ c .before .if1 .left) in
     let within = operand-within (g .version) (placeBy (l .left % 128)) (l .at + 1) _ (l .at) (g .behind .now) (l .inv .0) took in
     let few = operand-few (g .version) (placeBy (l .left % 128)) (l .at + 1) _ (drop (l .at) (g .behind .now)) took in
-    let less = decoded-less (l .left) (omega arith) (c .before .before .loop-test .taken) in (
+    let less = decoded-less (l .left) (omega arith) (s .loop-test .taken) in (
       omega arith,
       omega arith,
       omega arith,
-      operands-on (g .version) (l .left) (l .at) (g .behind .now) (omega arith) (c .before .before .loop-test .taken) _ took ∙ l .inv .3,
+      rw (c .taken-of .ensures) (operands-on (g .version) (l .left) (l .at) (g .behind .now) (omega arith) (s .loop-test .taken) _ took ∙ l .inv .3),
     )
 
 returns-2 : tie.Need-returns-2 Inv-loop μ-loop
@@ -67,12 +77,16 @@ returns-2 c =
     ap operandsNumber
     (sym (operands-fit (g .version) (l .left) (l .at + 1) (l .at) (g .behind .now) (c .before .loop-test .left) (c .if2 .taken)) ∙ l .inv .3)
 
+refused-requires : tie.Need-refused-requires Inv-loop μ-loop
+refused-requires c κs = search needs
+
 returns-3 : tie.Need-returns-3 Inv-loop μ-loop
 returns-3 c =
-    let g = c .before .before .before .before .args in
-    let l = c .before .before .loop in
-    ap operandsNumber
-    (sym (operands-over (g .version) (l .left) (l .at + 1) (l .at) (g .behind .now) (c .before .loop-test .left) (l .inv .0) (c .if2 .left)) ∙ l .inv .3)
+    let g = c .before .before .before .before .before .args in
+    let l = c .before .before .before .loop in
+    c .refused .ensures
+    ∙ ap operandsNumber
+    (sym (operands-over (g .version) (l .left) (l .at + 1) (l .at) (g .behind .now) (c .before .before .loop-test .left) (l .inv .0) (c .before .if2 .left)) ∙ l .inv .3)
 
 pub judge-operands-spec : {M : Type 1} → statement M
 judge-operands-spec =
@@ -82,9 +96,12 @@ judge-operands-spec =
     μ-loop
     loop-holds
     take-operand-requires
+    is-refused-requires
     returns
+    taken-of-requires
     add-at
     loop-less
     loop-again
     returns-2
+    refused-requires
     returns-3)

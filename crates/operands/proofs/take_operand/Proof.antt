@@ -1,11 +1,7 @@
 use mathlib.Core.Path.{refl, sym}
 use Prim.Native.Nat.{_+_}
-use native.Mathlib.Omega.{arith}
-use lib.ListN.{getD}
-use Rattle.paper.specs.OperandTokens.{tokenAt}
 use Rattle.paper.specs.Places.{freeSource, freeDestination}
 use Rattle.operands.proofs.OperandAt.{operand-none, free-number, typed-number, raw-number}
-use Rattle.operands.proofs.Numbers.{token-few}
 use Rattle.places.specs.Places.{placeBy}
 use Rattle.places.proofs.Places.{raw-place, free-destination-place, free-source-place}
 use Rattle.places.proofs.PlaceKinds.{not-free}
@@ -13,10 +9,13 @@ use borrow.Author.Needs.{needs}
 use Rattle.operands.proofs.take_operand.Statement.{statement}
 use Rattle.operands.proofs.take_operand.Tie as tie
 
+refused-requires : tie.Need-refused-requires
+refused-requires c κs = search needs
+
 returns : tie.Need-returns
 returns c =
-    let g = c .before .before .args in
-    rw (operand-none (g .version) (placeBy (g .place)) (g .at + 1) (g .at) (g .behind .now) (c .if1 .taken)) refl
+    let g = c .before .before .before .args in
+    rw (operand-none (g .version) (placeBy (g .place)) (g .at + 1) (g .at) (g .behind .now) (c .before .if1 .taken)) (c .refused .ensures)
 
 mul-token : tie.Need-mul-token
 mul-token c = search needs
@@ -28,9 +27,7 @@ judge-source-requires : tie.Need-judge-source-requires
 judge-source-requires c κs = search needs
 
 take-free-requires : tie.Need-take-free-requires
-take-free-requires c κs =
-    let g = c .before .before .before .before .before .args in
-    (rw (c .judge-source .ensures) (token-few (tokenAt (g .version) freeSource (getD (g .behind .now) (g .at) 0))), omega arith, omega arith)
+take-free-requires c κs = search needs
 
 returns-2 : tie.Need-returns-2
 returns-2 c =
@@ -41,9 +38,7 @@ judge-destination-requires : tie.Need-judge-destination-requires
 judge-destination-requires c κs = search needs
 
 take-free-requires-2 : tie.Need-take-free-requires-2
-take-free-requires-2 c κs =
-    let g = c .before .before .before .before .before .before .args in
-    (rw (c .judge-destination .ensures) (token-few (tokenAt (g .version) freeDestination (getD (g .behind .now) (g .at) 0))), omega arith, omega arith)
+take-free-requires-2 c κs = search needs
 
 returns-3 : tie.Need-returns-3
 returns-3 c =
@@ -59,9 +54,7 @@ judge-token-requires : tie.Need-judge-token-requires
 judge-token-requires c κs = search needs
 
 take-typed-requires : tie.Need-take-typed-requires
-take-typed-requires c κs =
-    let g = c .before .before .before .before .before .before .before .args in
-    (rw (c .judge-token .ensures) (token-few (tokenAt (g .version) (placeBy (g .place)) (getD (g .behind .now) (g .at) 0))), omega arith)
+take-typed-requires c κs = search needs
 
 returns-5 : tie.Need-returns-5
 returns-5 c =
@@ -72,6 +65,7 @@ pub take-operand-spec : {M : Type 1} → statement M
 take-operand-spec =
     tie.close
     (tie.spec
+    refused-requires
     returns
     mul-token
     shared-slice-read-token

@@ -1,20 +1,19 @@
 use mathlib.Core.Path.{refl}
 use Prim.Native.Nat.{_+_}
 use native.Mathlib.Omega.{arith}
-use lib.ListN.{getD}
 use borrow.Author.Tests.{ne-eqb}
-use Rattle.paper.specs.OperandTokens.{tokenAt}
-use Rattle.paper.specs.Places.{relative}
 use Rattle.operands.proofs.OperandAt.{relative-none, relative-number}
-use Rattle.operands.proofs.Numbers.{token-few}
 use borrow.Author.Needs.{needs}
 use Rattle.operands.proofs.take_relative.Statement.{statement}
 use Rattle.operands.proofs.take_relative.Tie as tie
 
+refused-requires : tie.Need-refused-requires
+refused-requires c κs = search needs
+
 returns : tie.Need-returns
 returns c =
-    let g = c .before .before .args in
-    rw (relative-none (g .version) (g .at + 1) (g .at) (g .behind .now) (c .if1 .taken)) refl
+    let g = c .before .before .before .args in
+    rw (relative-none (g .version) (g .at + 1) (g .at) (g .behind .now) (c .before .if1 .taken)) (c .refused .ensures)
 
 mul-judge-relative : tie.Need-mul-judge-relative
 mul-judge-relative c = search needs
@@ -31,9 +30,7 @@ returns-2 c =
     rw (relative-number (g .version) (g .at + 1) (g .at) _ (g .behind .now) (c .before .before .before .if1 .left) (c .before .judge-relative .ensures), c .if2 .taken) refl
 
 refused-at-requires : tie.Need-refused-at-requires
-refused-at-requires c κs =
-    let g = c .before .before .before .before .before .args in
-    (rw (c .before .judge-relative .ensures) (token-few (tokenAt (g .version) relative (getD (g .behind .now) (g .at) 0))), omega arith)
+refused-at-requires c κs = omega arith
 
 returns-3 : tie.Need-returns-3
 returns-3 c =
@@ -44,6 +41,7 @@ pub take-relative-spec : {M : Type 1} → statement M
 take-relative-spec =
     tie.close
     (tie.spec
+    refused-requires
     returns
     mul-judge-relative
     shared-slice-read-judge-relative

@@ -1,8 +1,9 @@
-use Prim.Native.Nat.{_%_, _<_}
+use Prim.Native.Nat.{_<_}
 use mathlib.Core.Path.{_∙_}
 use native.Mathlib.Nat.{mod-lt}
 use lib.Dec.{lit<}
 use borrow.Author.Needs.{needs}
+use Rattle.places.specs.Places.{onlyType}
 use Rattle.paper.specs.OperandTokens.{typeOf}
 use Rattle.versions.proofs.Sets.{one-among}
 use Rattle.versions.proofs.Types.{type-small}
@@ -10,8 +11,8 @@ use Rattle.tokens.proofs.TokenAt.{one-bit}
 use Rattle.tokens.proofs.one_typed.Statement.{statement}
 use Rattle.tokens.proofs.one_typed.Tie as tie
 
-cast-type-in : tie.Need-cast-type-in
-cast-type-in c = search needs
+only-type-requires : tie.Need-only-type-requires
+only-type-requires c κs = search needs
 
 shl-type-in : tie.Need-shl-type-in
 shl-type-in c = search needs
@@ -21,9 +22,11 @@ type-in-requires c κs = search needs
 
 returns : tie.Need-returns
 returns c =
-    let g = c .before .args in
-    let small : g .place % 32 < 32 = mod-lt (g .place) (lit< tt) in
-    c .type-in .ensures ∙ rw (one-bit (g .place % 32) small) (one-among (g .place % 32) (typeOf (g .token)) small (type-small (g .token)))
+    let g = c .before .before .args in
+    let small : onlyType (g .place) < 32 = mod-lt (g .place) (lit< tt) in
+    c .type-in .ensures
+    ∙ rw (c .before .only-type .ensures, one-bit (onlyType (g .place)) small)
+    (one-among (onlyType (g .place)) (typeOf (g .token)) small (type-small (g .token)))
 
 pub one-typed-spec : {M : Type 1} → statement M
-one-typed-spec = tie.close (tie.spec cast-type-in shl-type-in type-in-requires returns)
+one-typed-spec = tie.close (tie.spec only-type-requires shl-type-in type-in-requires returns)

@@ -1,20 +1,24 @@
-use Prim.Native.Nat.{_%_, _<_}
+use Prim.Native.Nat.{_<_}
 use mathlib.Core.Path.{sym, _∙_}
 use native.Mathlib.Omega.{arith}
 use borrow.Author.Needs.{needs}
+use Rattle.places.specs.Places.{onlyType}
 use Rattle.places.proofs.Places.{killed-place, condition-place, predicate-place, relative-place, declared-place}
 use Rattle.tokens.proofs.TokenAt.{one-type, killed-types, predicate-types}
 use Rattle.tokens.proofs.typed_at.Statement.{statement}
 use Rattle.tokens.proofs.typed_at.Tie as tie
+
+only-type-requires : tie.Need-only-type-requires
+only-type-requires c κs = search needs
 
 one-typed-requires : tie.Need-one-typed-requires
 one-typed-requires c κs = search needs
 
 returns : tie.Need-returns
 returns c =
-    let s = c .before .before in
+    let s = c .before .before .before in
     let g = s .args in
-    let low : g .place % 32 < 28 = c .before .if1 .taken in
+    let low : onlyType (g .place) < 28 = rw (c .before .before .only-type .ensures) at (c .before .if1 .taken) in
     c .one-typed .ensures
     ∙ sym
     (one-type (g .version) (g .token) (g .place) (s .pre .0) (s .pre .1) (λ e. omega (arith, low, e)) (λ e. omega (arith, low, e)) (λ e. omega (arith, low, e)) (λ e. omega (arith, low, e))
@@ -52,7 +56,7 @@ one-typed-requires-2 c κs = search needs
 
 returns-7 : tie.Need-returns-7
 returns-7 c =
-    let s = c .before .before .before .before .before .before .before in
+    let s = c .before .before .before .before .before .before .before .before in
     let g = s .args in
     c .one-typed2 .ensures
     ∙ sym
@@ -63,6 +67,7 @@ pub typed-at-spec : {M : Type 1} → statement M
 typed-at-spec =
     tie.close
     (tie.spec
+    only-type-requires
     one-typed-requires
     returns
     type-in-requires

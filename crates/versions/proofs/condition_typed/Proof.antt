@@ -1,31 +1,21 @@
-use mathlib.Core.Path.{sym, _∙_}
+use borrow.Author.Needs.{needs}
 use borrow.Author.Tests.{eq-eqb, ne-eqb}
 use Rattle.versions.proofs.Types.{condition-type}
-use borrow.Author.Needs.{needs}
 use Rattle.versions.proofs.condition_typed.Statement.{statement}
 use Rattle.versions.proofs.condition_typed.Tie as tie
 
 type-of-requires : tie.Need-type-of-requires
 type-of-requires c κs = search needs
 
+has-predicates-requires : tie.Need-has-predicates-requires
+has-predicates-requires c κs = search needs
+
 returns : tie.Need-returns
 returns c =
-    let g = c .before .before .args in
-    rw (← (c .before .type-of .ensures .0)) (sym (condition-type (g .version) (c .before .type-of .result) ∙ simp (eq-eqb _ _ (c .if1 .taken))))
-
-is-third-requires : tie.Need-is-third-requires
-is-third-requires c κs = search needs
+    rw (condition-type _ _, ← (c .before .before .type-of .ensures .0), eq-eqb _ _ (c .before .if1 .taken)) (c .has-predicates .ensures)
 
 returns-2 : tie.Need-returns-2
-returns-2 c =
-    let g = c .before .before .before .before .args in
-    rw (← (c .before .before .before .type-of .ensures .0)) (sym (condition-type (g .version) (c .before .before .before .type-of .result) ∙ simp (ne-eqb _ _ (c .before .before .if1 .left), eq-eqb _ _ (c .before .if2 .taken), c .is-third .ensures)))
-
-returns-3 : tie.Need-returns-3
-returns-3 c =
-    let g = c .before .before .before .args in
-    rw (← (c .before .before .type-of .ensures .0)) (sym (condition-type (g .version) (c .before .before .type-of .result) ∙ simp (ne-eqb _ _ (c .before .if1 .left), ne-eqb _ _ (c .if2 .left))))
+returns-2 c = rw (condition-type _ _, ← (c .before .type-of .ensures .0), ne-eqb _ _ (c .if1 .left))
 
 pub condition-typed-spec : {M : Type 1} → statement M
-condition-typed-spec =
-    tie.close (tie.spec type-of-requires returns is-third-requires returns-2 returns-3)
+condition-typed-spec = tie.close (tie.spec type-of-requires has-predicates-requires returns returns-2)

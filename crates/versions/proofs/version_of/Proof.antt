@@ -1,21 +1,15 @@
-use borrow.Author.Tests.{eq-eqb, ne-eqb}
+use mathlib.Core.Path.{ap}
+use borrow.Author.Needs.{needs}
+use Rattle.paper.specs.Numbers.{toldNamed}
+use Rattle.versions.proofs.Names.{names-named}
 use Rattle.versions.proofs.version_of.Statement.{statement}
 use Rattle.versions.proofs.version_of.Tie as tie
 
+found-by-requires : tie.Need-found-by-requires
+found-by-requires c κs = search needs
+
 returns : tie.Need-returns
-returns c = simp (eq-eqb _ _ (c .if1 .taken))
-
-returns-2 : tie.Need-returns-2
-returns-2 c = simp (eq-eqb _ _ (c .if2 .taken), ne-eqb _ _ (c .before .if1 .left))
-
-returns-3 : tie.Need-returns-3
-returns-3 c = simp (eq-eqb _ _ (c .if3 .taken), ne-eqb _ _ (c .before .if2 .left), ne-eqb _ _ (c .before .before .if1 .left))
-
-returns-4 : tie.Need-returns-4
-returns-4 c = simp (eq-eqb _ _ (c .if4 .taken), ne-eqb _ _ (c .before .if3 .left), ne-eqb _ _ (c .before .before .if2 .left), ne-eqb _ _ (c .before .before .before .if1 .left))
-
-returns-5 : tie.Need-returns-5
-returns-5 c = simp (ne-eqb _ _ (c .if4 .left), ne-eqb _ _ (c .before .if3 .left), ne-eqb _ _ (c .before .before .if2 .left), ne-eqb _ _ (c .before .before .before .if1 .left))
+returns c = ap toldNamed (names-named (c .found-by .result) (c .before .args .token) (c .found-by .ensures))
 
 pub version-of-spec : {M : Type 1} → statement M
-version-of-spec = tie.close (tie.spec returns returns-2 returns-3 returns-4 returns-5)
+version-of-spec = tie.close (tie.spec found-by-requires returns)
