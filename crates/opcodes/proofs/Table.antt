@@ -13,9 +13,10 @@ use Rattle.paper.specs.Versions.{versions, isOne, hasPredicates}
 use Rattle.paper.specs.OpcodeTable.{Row, rows}
 use Rattle.paper.specs.Blocks.{classes, classOf}
 use Rattle.paper.specs.declared.Version.{Version}
+use Rattle.paper.specs.declared.Version.the-variants.{V3}
 use Rattle.opcodes.specs.Shape.{shapeOf}
 use Rattle.versions.specs.Rows.{rank}
-use Rattle.opcodes.specs.Rows.{firstShape, sincos, shapeFrom, sincosRow, rowOf}
+use Rattle.opcodes.specs.Rows.{firstShape, sincos, shapeFrom, rowOf}
 use Rattle.paper.proofs.Below.{both-left, both-right}
 use Rattle.paper.proofs.VersionTokens.{each}
 use Rattle.paper.specs.Places.{absent, entryIn, entryOf, typedPlaces}
@@ -84,27 +85,27 @@ no-row-from opcode (suc n) from rest =
 pub no-row : (opcode : ℕ) → NoneBelow opcode limit → rowOf opcode ≡ 0
 no-row opcode rest = no-row-from opcode limit (row-beyond opcode) rest
 
--- what the code finds for the version of a rank, by the row of an opcode and SINCOS's other row: none where the version's bit is zero, but
+-- what the code finds for the version of a rank, with predicates or without, by the row of an opcode: none where the version's bit is zero, but
 -- for SINCOS; a step only where there are predicates
-abbrev pub found : ℕ → Bool → ℕ → ℕ → ℕ → ℕ
-found n predicates opcode row other =
-    pick (eqb (row / 2 ^ n % 2) 0) (pick (eqb opcode sincos && eqb (other / 2 ^ n % 2) 1) (other / shapeFrom) 0)
+abbrev pub found : ℕ → Bool → ℕ → ℕ → ℕ
+found n predicates opcode row =
+    pick (eqb (row / 2 ^ n % 2) 0) (pick (eqb opcode sincos && predicates) (shapeOf V3 sincos) 0)
     (pick predicates (row / shapeFrom) (row / shapeFrom / 2 ^ 38 * 2 ^ 38 + row / shapeFrom % 2 ^ 35))
 
 abbrev right : Version → ℕ → Bool
-right v opcode = eqb (found (rank v) (hasPredicates v) opcode (rowOf opcode) sincosRow) (shapeOf v opcode)
+right v opcode = eqb (found (rank v) (hasPredicates v) opcode (rowOf opcode)) (shapeOf v opcode)
 
 right-beyond : (v : Version) (opcode : ℕ) → limit ≤ opcode → right v opcode ≡ true
 unfolding shapeOf
 right-beyond v opcode h =
     rw (beyond v opcode h, row-beyond opcode h, ne-eqb opcode sincos (λ e. omega arith))
-    (each (λ v. eqb (found (rank v) (hasPredicates v) limit 0 0) 0) refl v)
+    (each (λ v. eqb (found (rank v) (hasPredicates v) limit 0) 0) refl v)
 
 agrees : (v : Version) (opcode : ℕ) → right v opcode ≡ true
-unfolding rows entryOf typedPlaces classOf classes shapeOf sincosRow rowOf
+unfolding rows entryOf typedPlaces classOf classes shapeOf rowOf
 agrees = computed right limit refl right-beyond
 
 -- what the code finds is what the paper's table says
-pub looked-up : (v : Version) (opcode n row other : ℕ) (predicates : Bool) →
-    n ≡ rank v → predicates ≡ hasPredicates v → row ≡ rowOf opcode → other ≡ sincosRow → found n predicates opcode row other ≡ shapeOf v opcode
-looked-up v opcode n row other predicates hn hp hr ho = rw (hn, hp, hr, ho) (eqb-true _ (shapeOf v opcode) (agrees v opcode))
+pub looked-up : (v : Version) (opcode n row : ℕ) (predicates : Bool) →
+    n ≡ rank v → predicates ≡ hasPredicates v → row ≡ rowOf opcode → found n predicates opcode row ≡ shapeOf v opcode
+looked-up v opcode n row predicates hn hp hr = rw (hn, hp, hr) (eqb-true _ (shapeOf v opcode) (agrees v opcode))

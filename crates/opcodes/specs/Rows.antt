@@ -32,17 +32,9 @@ abbrev pub versionBits : List Version → ℕ → ℕ → ℕ
 versionBits [] opcode shape = 0
 versionBits (v ∷ vs) opcode shape = pick (eqb (stepped v opcode) shape) (2 ^ rank v) 0 + versionBits vs opcode shape
 
--- a row with a shape: the versions lowest, above them the shape
+-- the versions lowest, above them the shape; an opcode that is not in the table has row 0
 abbrev pub shapeFrom : ℕ
 shapeFrom = 2 ^ length versions
 
-abbrev pub rowWith : ℕ → ℕ → ℕ
-rowWith opcode shape = versionBits versions opcode shape + shapeFrom * shape
-
--- the row that SINCOS has besides
-unfoldable pub sincosRow : ℕ
-sincosRow = rowWith sincos (stepped V3 sincos)
-
--- an opcode that is not in the table has row 0
 unfoldable pub rowOf : ℕ → ℕ
-rowOf opcode = pick (eqb (rowShape opcode) 0) 0 (rowWith opcode (rowShape opcode))
+rowOf opcode = pick (eqb (rowShape opcode) 0) 0 (versionBits versions opcode (rowShape opcode) + shapeFrom * rowShape opcode)

@@ -86,7 +86,7 @@ pub fn shape_of(version: Version, opcode: u32) -> u64
     let row = row_of(opcode);
     if (row >> rank) % 2 == 0 {
         // SINCOS: "DSSS; in V3 P3 DS"
-        if (opcode == 37) & ((rows::SINCOS_THIRD >> rank) % 2 == 1) {
+        if (opcode == 37) & predicates {
             return rows::SINCOS_THIRD / rows::SHAPE;
         }
         return 0;

@@ -1,11 +1,13 @@
 -- Laws of the register types that a version allows.
-use mathlib.Core.Path.{_≡_, refl}
-use mathlib.Core.Bool.{true}
-use mathlib.Core.List.{List}
+use mathlib.Core.Path.{_≡_, refl, _∙_}
+use mathlib.Core.Bool.{Bool, true, false, _||_}
+use mathlib.Core.List.{List, [], _∷_}
 use Prim.Native.Nat.{ℕ, _<_}
 use native.Mathlib.Omega.{arith}
-use Rattle.paper.specs.Notation.{among}
-use Rattle.paper.specs.Versions.{versions}
+use lib.Dec.{eqb}
+use borrow.Author.Tests.{eqb-true}
+use Rattle.paper.specs.Notation.{pick, among}
+use Rattle.paper.specs.Versions.{has, versions, hasPredicates}
 use Rattle.paper.specs.OperandTokens.{typeOf, freeDestinationTypes, freeSourceTypes, conditionTypes, relativeTypes}
 use Rattle.paper.specs.declared.Version.{Version}
 use Rattle.paper.proofs.Below.{below}
@@ -29,10 +31,33 @@ pub source-types : (v : Version) (token : ℕ) → holds (setOf (freeSourceTypes
 unfolding holds
 source-types = types-agree freeSourceTypes refl
 
-pub condition-types : (v : Version) (token : ℕ) → holds (setOf (conditionTypes v)) (typeOf token) ≡ among (typeOf token) (conditionTypes v)
-unfolding holds
-condition-types = types-agree conditionTypes refl
+-- lists of one or two types, by a test for the type that some versions have and one for the type that all have
+module _ (k some all : ℕ) (apart : eqb some all ≡ false) where
+  or-none : (b : Bool) → b || false ≡ b
+  or-none true = refl
+  or-none false = refl
 
-pub relative-types : (v : Version) (token : ℕ) → holds (setOf (relativeTypes v)) (typeOf token) ≡ among (typeOf token) (relativeTypes v)
-unfolding holds
-relative-types = types-agree relativeTypes refl
+  by : (may is : Bool) → eqb k some ≡ is → among k (pick may (some ∷ all ∷ []) (all ∷ [])) ≡ pick is may (eqb k all)
+  by true true e = rw e
+  by true false e = rw e (or-none (eqb k all))
+  by false true e = rw (eqb-true k some e, apart)
+  by false false e = or-none (eqb k all)
+
+  pub some-first : (may : Bool) → among k (pick may (some ∷ all ∷ []) (all ∷ [])) ≡ pick (eqb k some) may (eqb k all)
+  some-first may = by may (eqb k some) refl
+
+or-order : (a b : Bool) → a || (b || false) ≡ b || (a || false)
+or-order true true = refl
+or-order true false = refl
+or-order false true = refl
+or-order false false = refl
+
+swapped : (k a b : ℕ) (may : Bool) → among k (pick may (a ∷ b ∷ []) (a ∷ [])) ≡ among k (pick may (b ∷ a ∷ []) (a ∷ []))
+swapped k a b true = or-order (eqb k a) (eqb k b)
+swapped k a b false = refl
+
+pub condition-type : (v : Version) (k : ℕ) → among k (conditionTypes v) ≡ pick (eqb k 19) (hasPredicates v) (eqb k 14)
+condition-type v k = swapped k 14 19 (hasPredicates v) ∙ some-first k 19 14 refl (hasPredicates v)
+
+pub relative-type : (v : Version) (k : ℕ) → among k (relativeTypes v) ≡ pick (eqb k 3) (has v .addresses) (eqb k 15)
+relative-type v k = some-first k 3 15 refl (has v .addresses)

@@ -12,6 +12,7 @@ ghost use Rattle.versions.specs.Names.{Names};
 use paper::Named;
 use paper::Version;
 
+// The version whose first token this is.
 fn found_by(token: u32) -> Named
     ensures { λ r. ⌜ Names r token ⌝ }
 {
@@ -66,6 +67,7 @@ pub const PLAIN_FORM: u64 = 2;
 
 pub const USAGE_FORM: u64 = 3;
 
+// The rows.
 const VS_2_0: u64 = USAGE_FORM * INPUT + RELATIVE_SOURCES + ADDRESSES;
 
 const VS_3_0: u64 = SAMPLER_FORM * SAMPLER
@@ -102,6 +104,7 @@ fn row_of(version: Version) -> u64
     }
 }
 
+// A row by what it tells: every question of a version is asked of it.
 fn told_of(version: Version) -> u64
     ensures { λ r. ⌜ Tells version r ⌝ }
 {
@@ -176,13 +179,14 @@ const PIXEL_SOURCES: u32 = 0b10_0011_1000_0000_1111;
 
 const VERTEX_SOURCES: u32 = 0b11_1000_0000_0111;
 
-const BOOLEAN: u32 = 1 << 14;
+// Register types.
+const ADDRESS: u32 = 3;
 
-const PREDICATE: u32 = 1 << 19;
+const BOOLEAN: u32 = 14;
 
-const ADDRESS: u32 = 1 << 3;
+const COUNTER: u32 = 15;
 
-const COUNTER: u32 = 1 << 15;
+const PREDICATE: u32 = 19;
 
 pub fn free_destination_types(version: Version) -> u32
     ensures { λ r. ⌜ r ≡ setOf (freeDestinationTypes version) ⌝ }
@@ -213,35 +217,23 @@ pub fn form_of(version: Version, token: u32) -> u64
     ((row % PIXEL) >> (2 * kind)) % FORMS
 }
 
-fn condition_types(version: Version) -> u32
-    ensures { λ r. ⌜ r ≡ setOf (conditionTypes version) ⌝ }
-{
-    if has_predicates(version) {
-        BOOLEAN + PREDICATE
-    } else {
-        BOOLEAN
-    }
-}
-
-// "type 3 or 15 (P3: 15 only)"
-fn relative_types(version: Version) -> u32
-    ensures { λ r. ⌜ r ≡ setOf (relativeTypes version) ⌝ }
-{
-    if has_addresses(version) {
-        ADDRESS + COUNTER
-    } else {
-        COUNTER
-    }
-}
-
 pub fn condition_typed(version: Version, token: u32) -> bool
     ensures { λ r. ⌜ r ≡ among (typeOf token) (conditionTypes version) ⌝ }
 {
-    type_in(condition_types(version), token)
+    let kind = type_of(token);
+    if kind == PREDICATE {
+        return has_predicates(version);
+    }
+    kind == BOOLEAN
 }
 
+// "type 3 or 15 (P3: 15 only)"
 pub fn relative_typed(version: Version, token: u32) -> bool
     ensures { λ r. ⌜ r ≡ among (typeOf token) (relativeTypes version) ⌝ }
 {
-    type_in(relative_types(version), token)
+    let kind = type_of(token);
+    if kind == ADDRESS {
+        return has_addresses(version);
+    }
+    kind == COUNTER
 }

@@ -1,5 +1,5 @@
 -- `opcodes::shape_of` meets its contract: what it looks up is what the paper's table says.
-use mathlib.Core.Path.{_≡_, refl}
+use mathlib.Core.Path.{_≡_}
 use native.Mathlib.Omega.{arith}
 use borrow.Author.Needs.{needs}
 use borrow.Author.Tests.{eq-eqb, ne-eqb}
@@ -7,7 +7,6 @@ use Rattle.paper.specs.OpcodeTable.{rows}
 use Rattle.paper.specs.Blocks.{classes, classOf}
 use Rattle.paper.specs.Places.{entryOf, typedPlaces}
 use Rattle.opcodes.specs.Shape.{shapeOf}
-use Rattle.opcodes.specs.Rows.{sincosRow}
 use Rattle.versions.proofs.Rows.{rank-small}
 use Rattle.opcodes.proofs.Table.{found, looked-up}
 use Rattle.opcodes.proofs.shape_of.Statement.{statement}
@@ -16,10 +15,10 @@ use Rattle.opcodes.proofs.shape_of.Tie as tie
 -- each way through the code is one of the choices of `found`
 looks : (c : tie.After-row-of) →
     let g = c .before .before .before .args in
-    found (c .before .before .rank-of .result) (c .before .has-predicates .result) (g .opcode) (c .row-of .result) sincosRow ≡ shapeOf (g .version) (g .opcode)
+    found (c .before .before .rank-of .result) (c .before .has-predicates .result) (g .opcode) (c .row-of .result) ≡ shapeOf (g .version) (g .opcode)
 looks c =
     let g = c .before .before .before .args in
-    looked-up (g .version) (g .opcode) _ _ sincosRow _ (c .before .before .rank-of .ensures) (c .before .has-predicates .ensures) (c .row-of .ensures) refl
+    looked-up (g .version) (g .opcode) _ _ _ (c .before .before .rank-of .ensures) (c .before .has-predicates .ensures) (c .row-of .ensures)
 
 rank-of-requires : tie.Need-rank-of-requires
 rank-of-requires c κs = search needs
@@ -36,18 +35,11 @@ cast-if1 c = search needs
 shr-if1 : tie.Need-shr-if1
 shr-if1 c = omega (arith, rank-small (c .before .before .before .args .version))
 
-cast-if2 : tie.Need-cast-if2
-cast-if2 c = search needs
-
-shr-if2 : tie.Need-shr-if2
-shr-if2 c = omega (arith, rank-small (c .before .before .before .before .args .version))
-
 returns : tie.Need-returns
-unfolding rows entryOf typedPlaces classOf classes sincosRow
+unfolding rows entryOf typedPlaces classOf classes shapeOf
 returns c = rw (eq-eqb _ _ (c .before .if1 .taken), c .if2 .taken) at (looks (c .before .before))
 
 returns-2 : tie.Need-returns-2
-unfolding rows entryOf typedPlaces classOf classes sincosRow
 returns-2 c = rw (eq-eqb _ _ (c .before .if1 .taken), c .if2 .left) at (looks (c .before .before))
 
 returns-3 : tie.Need-returns-3
@@ -71,8 +63,6 @@ shape-of-spec =
     row-of-requires
     cast-if1
     shr-if1
-    cast-if2
-    shr-if2
     returns
     returns-2
     returns-3

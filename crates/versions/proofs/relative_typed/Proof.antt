@@ -1,16 +1,21 @@
 use borrow.Author.Needs.{needs}
-use Rattle.versions.proofs.Types.{relative-types}
+use borrow.Author.Tests.{eq-eqb, ne-eqb}
+use Rattle.versions.proofs.Types.{relative-type}
 use Rattle.versions.proofs.relative_typed.Statement.{statement}
 use Rattle.versions.proofs.relative_typed.Tie as tie
 
-relative-types-requires : tie.Need-relative-types-requires
-relative-types-requires c κs = search needs
+type-of-requires : tie.Need-type-of-requires
+type-of-requires c κs = search needs
 
-type-in-requires : tie.Need-type-in-requires
-type-in-requires c κs = search needs
+has-addresses-requires : tie.Need-has-addresses-requires
+has-addresses-requires c κs = search needs
 
 returns : tie.Need-returns
-returns c = rw (c .type-in .ensures, c .before .relative-types .ensures, relative-types _ _)
+returns c =
+    rw (relative-type _ _, ← (c .before .before .type-of .ensures .0), eq-eqb _ _ (c .before .if1 .taken)) (c .has-addresses .ensures)
+
+returns-2 : tie.Need-returns-2
+returns-2 c = rw (relative-type _ _, ← (c .before .type-of .ensures .0), ne-eqb _ _ (c .if1 .left))
 
 pub relative-typed-spec : {M : Type 1} → statement M
-relative-typed-spec = tie.close (tie.spec relative-types-requires type-in-requires returns)
+relative-typed-spec = tie.close (tie.spec type-of-requires has-addresses-requires returns returns-2)
