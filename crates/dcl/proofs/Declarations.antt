@@ -9,12 +9,17 @@ use lib.ListN.{length, getD}
 use borrow.Author.Tests.{ne-eqb}
 use Rattle.paper.specs.Notation.{pick, among}
 use Rattle.paper.specs.Versions.{isPixel}
-use Rattle.paper.specs.OperandTokens.{typeOf, refusedOperands}
+use Rattle.paper.specs.Numbers.{numberOf, toldToken}
+use Rattle.paper.specs.OperandTokens.{typeOf, refusedOperands, leftOver}
 use Rattle.paper.specs.Dcl.{samplerForm, plainForm, vertexUsage, pixelUsage, samplerTypes, plainTypes, usageTypes, isDeclared, formLaid, onDeclared, declaredAt, usageLaid, declaration}
 use Rattle.versions.specs.Rows.{formOf}
 use Rattle.paper.specs.declared.Version.{Version}
 use Rattle.paper.specs.declared.Reason.the-variants.{Size as SIZE, Operand as OPERAND}
-use Rattle.paper.specs.declared.Operands.the-variants.{Fit}
+use Rattle.paper.specs.declared.Token.{Token}
+use Rattle.paper.specs.declared.Token.the-variants.{Good, Bad}
+use Rattle.paper.proofs.OneToOne.{no-reason-zero}
+use Rattle.told.specs.Numbered.{operandsNumber}
+use Rattle.dcl.specs.Concluded.{concluded}
 
 -- with fewer than two tokens there is no destination
 pub no-destination : (v : Version) (behind : List ℕ) → length behind < 2 → declaration v behind ≡ refusedOperands SIZE 0
@@ -26,17 +31,21 @@ no-destination v (u ∷ (d ∷ rest)) h = absurd (omega arith)
 more-than-two : (n : ℕ) → eqb (suc (suc (suc n))) 2 ≡ false
 more-than-two n = ne-eqb (suc (suc (suc n))) 2 (λ e. omega arith)
 
+by-destination : (t : Token) (laid : Bool) (rest : List ℕ) →
+    operandsNumber (onDeclared t (pick laid (leftOver rest) (refusedOperands OPERAND 1)))
+    ≡ concluded (toldToken t) laid (eqb (suc (suc (length rest))) 2)
+by-destination Good true [] = refl
+by-destination Good true (token ∷ rest) = rw (more-than-two (length rest)) refl
+by-destination Good false rest = refl
+by-destination (Bad reason) laid rest = rw (ne-eqb (numberOf reason) 0 (λ z. no-reason-zero reason (sym z))) refl
+
 pub with-destination : (v : Version) (behind : List ℕ) → 2 ≤ length behind →
-    declaration v behind ≡
-    onDeclared (declaredAt v (getD behind 1 0))
-    (pick (usageLaid v (typeOf (getD behind 1 0)) (getD behind 0 0))
-    (pick (eqb (length behind) 2) Fit (refusedOperands SIZE 0))
-    (refusedOperands OPERAND 1))
+    operandsNumber (declaration v behind) ≡
+    concluded (toldToken (declaredAt v (getD behind 1 0))) (usageLaid v (typeOf (getD behind 1 0)) (getD behind 0 0)) (eqb (length behind) 2)
 unfolding declaration
 with-destination v [] h = absurd (omega arith)
 with-destination v (u ∷ []) h = absurd (omega arith)
-with-destination v (u ∷ (d ∷ [])) h = refl
-with-destination v (u ∷ (d ∷ (t ∷ rest))) h = rw (more-than-two (length rest))
+with-destination v (u ∷ (d ∷ rest)) h = by-destination (declaredAt v d) (usageLaid v (typeOf d) u) rest
 
 -- the forms by their numbers
 module _ (v : Version) (type : ℕ) where

@@ -1,13 +1,10 @@
 // The operands of DCL: document 01, "DCL".
 ghost use mathlib.Core.Path.{_≡_};
-ghost use Rattle.paper.specs.Notation.{pick};
-ghost use Rattle.paper.specs.Numbers.{toldOperands};
-ghost use Rattle.paper.specs.OperandTokens.{typeOf, refusedOperands};
-ghost use Rattle.paper.specs.Dcl.{samplerForm, usageForm, vertexUsage, pixelUsage, formLaid, isDeclared, positionOrFace, faceLaid, declaredAt, onDeclared, usageLaid, declaration};
-use paper::Operands;
-use paper::Reason;
-use paper::Refusal;
-use paper::Token;
+ghost use Rattle.paper.specs.Numbers.{toldToken};
+ghost use Rattle.paper.specs.OperandTokens.{typeOf};
+ghost use Rattle.paper.specs.Dcl.{samplerForm, usageForm, vertexUsage, pixelUsage, formLaid, isDeclared, positionOrFace, faceLaid, declaredAt, usageLaid, declaration};
+ghost use Rattle.told.specs.Numbered.{operandsNumber};
+ghost use Rattle.dcl.specs.Concluded.{concluded};
 use paper::Version;
 
 // The register type of position and face.
@@ -89,8 +86,9 @@ fn is_declared(version: Version, destination: u32) -> bool
     form != versions::NO_FORM
 }
 
-fn declared_at(version: Version, destination: u32) -> Token
-    ensures { λ r. ⌜ r ≡ declaredAt version destination ⌝ }
+// What is told of the destination.
+fn declared_at(version: Version, destination: u32) -> u32
+    ensures { λ r. ⌜ r ≡ toldToken (declaredAt version destination) ⌝ }
 {
     let laid = layout::typed_destination_laid(version, destination);
     let face = face_laid(version, destination);
@@ -98,37 +96,28 @@ fn declared_at(version: Version, destination: u32) -> Token
     layout::layout_then_type(laid & face, typed)
 }
 
-fn refused(reason: Reason, position: usize) -> Operands
-    ensures { λ r. ⌜ r ≡ refusedOperands reason position ⌝ }
-{
-    Operands::Refused(Refusal { reason, position })
-}
-
 // The destination is judged first, then U, then what is left over.
-fn conclude(destination: Token, usage_laid: bool, no_more: bool) -> Operands
-    ensures { λ r. ⌜ r ≡ onDeclared destination (pick «usage_laid» (pick «no_more» Operands.Fit (refusedOperands Reason.Size 0)) (refusedOperands Reason.Operand 1)) ⌝ }
+fn conclude(destination: u32, usage_laid: bool, no_more: bool) -> u64
+    ensures { λ r. ⌜ r ≡ concluded destination «usage_laid» «no_more» ⌝ }
 {
-    match destination {
-        Token::Good => {}
-        Token::Bad(reason) => {
-            return refused(reason, 2);
-        }
+    if destination != 0 {
+        return told::refused(destination, 2);
     }
     if usage_laid {
         if no_more {
-            return Operands::Fit;
+            return told::FIT;
         }
-        return refused(Reason::Size, 0);
+        return told::refused(paper::SIZE, 0);
     }
-    refused(Reason::Operand, 1)
+    told::refused(paper::OPERAND, 1)
 }
 
-// The tokens behind a DCL's instruction token: U, the destination, and no more.
-pub fn judge_declaration(version: Version, behind: &[u32]) -> Operands
-    ensures { λ r. ⌜ toldOperands r ≡ toldOperands (declaration version (now (behind .entry))) ⌝ }
+// What is told of the tokens behind a DCL's instruction token: U, the destination, and no more.
+pub fn judge_declaration(version: Version, behind: &[u32]) -> u64
+    ensures { λ r. ⌜ r ≡ operandsNumber (declaration version (now (behind .entry))) ⌝ }
 {
     if behind.len() < 2 {
-        return refused(Reason::Size, 0);
+        return told::refused(paper::SIZE, 0);
     }
     let usage = behind[0];
     let destination = behind[1];

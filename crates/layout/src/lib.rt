@@ -7,8 +7,6 @@ ghost use Rattle.paper.specs.Versions.{isPixel};
 ghost use Rattle.paper.specs.Numbers.{toldToken};
 ghost use Rattle.paper.specs.Places.{freeDestination, freeSource, declared, condition, predicate, relative};
 ghost use Rattle.paper.specs.OperandTokens.{typeOf, modifierOf, bothLaid, sourceModifier, laid, layoutThenType};
-use paper::Reason;
-use paper::Token;
 use paper::Version;
 
 // A set of modifiers: each raises its own bit.
@@ -129,16 +127,17 @@ pub fn relative_laid(version: Version, token: u32) -> bool
     laid & (token / 0x100_0000 % 16 == 0)
 }
 
-pub fn layout_then_type(laid: bool, typed: bool) -> Token
-    ensures { λ r. ⌜ toldToken r ≡ toldToken (layoutThenType laid typed) ⌝ }
+// What is told of a token, by its layout and then by its type: 0, or the number of its fault.
+pub fn layout_then_type(laid: bool, typed: bool) -> u32
+    ensures { λ r. ⌜ r ≡ toldToken (layoutThenType laid typed) ⌝ }
 {
     if laid {
         if typed {
-            Token::Good
+            0
         } else {
-            Token::Bad(Reason::Register)
+            paper::REGISTER
         }
     } else {
-        Token::Bad(Reason::Operand)
+        paper::OPERAND
     }
 }

@@ -5,17 +5,13 @@ use Prim.Native.Nat.{ℕ, suc, _<_}
 use native.Mathlib.Omega.{arith}
 use lib.ListN.{getD}
 use Rattle.paper.specs.Versions.{named}
-use Rattle.paper.specs.Numbers.{numberOf, refusal, ToldVerdict, told, ToldNamed, toldNamed, toldToken, ToldOperands, toldOperands, ToldInstruction, toldInstruction}
+use Rattle.paper.specs.Numbers.{numberOf, refusal, ToldVerdict, told, ToldNamed, toldNamed, ToldInstruction, toldInstruction}
 use Rattle.paper.proofs.VersionTokens.{named-back}
 use Rattle.paper.specs.declared.Named.{Named}
 use Rattle.paper.specs.declared.Named.the-variants.{Known, Unknown}
 use Rattle.paper.specs.declared.Reason.{Reason}
 use Rattle.paper.specs.declared.Reason.the-variants.{Length as LENGTH, Version as VERSION, Opcode as OPCODE, Bits as BITS, RunOut as RUN-OUT, Size as SIZE, Operand as OPERAND, Register as REGISTER, Block as BLOCK, Depth as DEPTH, Tail as TAIL, Place as PLACE, Room as ROOM, Record as RECORD}
 use Rattle.paper.specs.declared.Refusal.{Refusal}
-use Rattle.paper.specs.declared.Token.{Token}
-use Rattle.paper.specs.declared.Token.the-variants.{Good as GoodToken, Bad as BadToken}
-use Rattle.paper.specs.declared.Operands.{Operands}
-use Rattle.paper.specs.declared.Operands.the-variants.{Fit, Refused as RefusedOperands}
 use Rattle.paper.specs.declared.Judged.{Judged}
 use Rattle.paper.specs.declared.Judged.the-variants.{Good as GoodInstruction, Refused as RefusedInstruction}
 use Rattle.paper.specs.declared.Verdict.{Verdict}
@@ -80,20 +76,6 @@ same-named (Known v) (Known w) e = sym (named-back v) ∙ ap named (ap (λ (t : 
 same-named (Known v) Unknown e = absurd (no-reason-zero VERSION (ap (λ (t : ToldNamed). t .number) e))
 same-named Unknown (Known w) e = absurd (no-reason-zero VERSION (sym (ap (λ (t : ToldNamed). t .number) e)))
 same-named Unknown Unknown e = refl
-
-pub same-token : (a b : Token) → toldToken a ≡ toldToken b → a ≡ b
-same-token GoodToken GoodToken e = refl
-same-token GoodToken (BadToken b) e = absurd (no-reason-zero b e)
-same-token (BadToken a) GoodToken e = absurd (no-reason-zero a (sym e))
-same-token (BadToken a) (BadToken b) e = ap BadToken (same-reason a b e)
-
-pub same-operands : (a b : Operands) → toldOperands a ≡ toldOperands b → a ≡ b
-unfolding toldOperands
-same-operands Fit Fit e = refl
-same-operands Fit (RefusedOperands b) e = absurd (no-reason-zero (b .reason) (ap (λ (t : ToldOperands). t .number) e))
-same-operands (RefusedOperands a) Fit e = absurd (no-reason-zero (a .reason) (sym (ap (λ (t : ToldOperands). t .number) e)))
-same-operands (RefusedOperands a) (RefusedOperands b) e =
-    ap RefusedOperands (same-refusal a b (ap (λ (t : ToldOperands). t .number) e) (ap (λ (t : ToldOperands). t .position) e))
 
 pub same-instruction : (a b : Judged) → toldInstruction a ≡ toldInstruction b → a ≡ b
 unfolding toldInstruction

@@ -11,8 +11,6 @@ use Rattle.paper.specs.declared.Class.{Class}
 use Rattle.paper.specs.declared.Class.the-variants.{One}
 use Rattle.paper.specs.declared.Token.{Token}
 use Rattle.paper.specs.declared.Token.the-variants.{Good as GoodToken, Bad as BadToken}
-use Rattle.paper.specs.declared.Operands.{Operands}
-use Rattle.paper.specs.declared.Operands.the-variants.{Fit, Refused as RefusedOperands}
 use Rattle.paper.specs.declared.Judged.{Judged}
 use Rattle.paper.specs.declared.Judged.the-variants.{Good as GoodInstruction, Refused as RefusedInstruction}
 use Rattle.paper.specs.declared.Verdict.{Verdict}
@@ -61,15 +59,6 @@ toldNamed Unknown = record { number = numberOf VERSION; token = 0 }
 abbrev pub toldToken : Token → ℕ
 toldToken GoodToken = 0
 toldToken (BadToken reason) = numberOf reason
-
--- what is told of an instruction's operands: a yes has number 0 and position 0, and a refusal's position counts from the instruction
-pub record ToldOperands : Type 0 where
-  pub number : ℕ
-  pub position : ℕ
-
-unfoldable pub toldOperands : Operands → ToldOperands
-toldOperands Fit = record { number = 0; position = 0 }
-toldOperands (RefusedOperands r) = record { number = numberOf (r .reason); position = r .position }
 
 -- what is told of one instruction: a yes has number 0 and position 0, and gives how many tokens it takes and its class; a refusal takes none
 pub record ToldInstruction : Type 0 where

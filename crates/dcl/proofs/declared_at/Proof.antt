@@ -1,4 +1,3 @@
-use Rattle.paper.proofs.OneToOne.{same-token}
 use borrow.Author.Needs.{needs}
 use Rattle.dcl.proofs.declared_at.Statement.{statement}
 use Rattle.dcl.proofs.declared_at.Tie as tie
@@ -17,9 +16,8 @@ layout-then-type-requires c κs = search needs
 
 returns : tie.Need-returns
 returns c =
-    same-token _ _
-    (rw (c .before .is-declared .ensures, c .before .before .face-laid .ensures, c .before .before .before .typed-destination-laid .ensures)
-    at (c .layout-then-type .ensures))
+    rw (c .before .is-declared .ensures, c .before .before .face-laid .ensures, c .before .before .before .typed-destination-laid .ensures)
+    at (c .layout-then-type .ensures)
 
 pub declared-at-spec : {M : Type 1} → statement M
 declared-at-spec =

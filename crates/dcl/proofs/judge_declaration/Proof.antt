@@ -1,5 +1,5 @@
 use mathlib.Core.Path.{ap, _∙_, sym}
-use Rattle.paper.specs.Numbers.{toldOperands}
+use Rattle.told.specs.Numbered.{operandsNumber}
 use Rattle.dcl.proofs.Declarations.{no-destination, with-destination}
 use borrow.Author.Needs.{needs}
 use Rattle.dcl.proofs.judge_declaration.Statement.{statement}
@@ -9,7 +9,7 @@ refused-requires : tie.Need-refused-requires
 refused-requires c κs = search needs
 
 returns : tie.Need-returns
-returns c = ap toldOperands (c .refused .ensures ∙ sym (no-destination _ _ (c .before .if1 .taken)))
+returns c = c .refused .ensures ∙ ap operandsNumber (sym (no-destination _ _ (c .before .if1 .taken)))
 
 shared-slice-read-usage : tie.Need-shared-slice-read-usage
 shared-slice-read-usage c = search needs
@@ -29,7 +29,7 @@ conclude-requires c κs = search needs
 returns-2 : tie.Need-returns-2
 returns-2 c =
     rw (c .conclude .ensures, c .before .usage-laid .ensures, c .before .before .declared-at .ensures)
-    (ap toldOperands (sym (with-destination _ _ (c .before .before .before .before .before .if1 .left))))
+    (sym (with-destination _ _ (c .before .before .before .before .before .if1 .left)))
 
 pub judge-declaration-spec : {M : Type 1} → statement M
 judge-declaration-spec =

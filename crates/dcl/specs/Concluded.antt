@@ -1,0 +1,15 @@
+-- What is told of a DCL's operands, by what is told of its destination, whether U is laid, and whether no token is left over.
+use Prim.Native.Nat.{ℕ}
+use mathlib.Core.Bool.{Bool}
+use lib.Dec.{eqb}
+use Rattle.paper.specs.Notation.{pick}
+use Rattle.paper.specs.OperandTokens.{refusedOperands}
+use Rattle.paper.specs.declared.Reason.the-variants.{Size as SIZE, Operand as OPERAND}
+use Rattle.paper.specs.declared.Operands.the-variants.{Fit}
+use Rattle.told.specs.Numbered.{faultNumber, operandsNumber}
+
+abbrev pub concluded : ℕ → Bool → Bool → ℕ
+concluded destination usageLaid noMore =
+    pick (eqb destination 0)
+    (pick usageLaid (pick noMore (operandsNumber Fit) (operandsNumber (refusedOperands SIZE 0))) (operandsNumber (refusedOperands OPERAND 1)))
+    (faultNumber destination 2)
