@@ -12,6 +12,7 @@ ghost use Rattle.versions.specs.Names.{Names};
 use paper::Named;
 use paper::Version;
 
+// The version whose first token this is.
 fn found_by(token: u32) -> Named
     ensures { λ r. ⌜ Names r token ⌝ }
 {
@@ -66,6 +67,7 @@ pub const PLAIN_FORM: u64 = 2;
 
 pub const USAGE_FORM: u64 = 3;
 
+// The rows.
 const VS_2_0: u64 = USAGE_FORM * INPUT + RELATIVE_SOURCES + ADDRESSES;
 
 const VS_3_0: u64 = SAMPLER_FORM * SAMPLER
@@ -102,6 +104,7 @@ fn row_of(version: Version) -> u64
     }
 }
 
+// A row by what it tells: every question of a version is asked of it.
 fn told_of(version: Version) -> u64
     ensures { λ r. ⌜ Tells version r ⌝ }
 {
