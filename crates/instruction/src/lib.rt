@@ -30,7 +30,8 @@ fn judge_listed(version: Version, shape: u64, first: u32, behind: &[u32]) -> u64
 {
     let claim = instruction_token::claim_of(first);
     let size = claim as usize;
-    if behind.len() < size {
+    let shown = behind.len();
+    if shown < size {
         return told::refused_first(Reason::RunOut);
     }
     let told = judge_claimed(version, shape, first, &behind[..size]);

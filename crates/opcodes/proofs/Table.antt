@@ -17,7 +17,7 @@ use Rattle.paper.specs.declared.Version.the-variants.{V3}
 use Rattle.opcodes.specs.Shape.{shapeOf}
 use Rattle.versions.specs.Rows.{rank}
 use Rattle.opcodes.specs.Rows.{firstShape, sincos, shapeFrom, rowOf}
-use Rattle.paper.proofs.Below.{both-left, both-right}
+use Rattle.paper.proofs.Bools.{both-left, both-right}
 use Rattle.paper.proofs.VersionTokens.{each}
 use Rattle.paper.specs.Places.{absent, entryIn, entryOf, typedPlaces}
 use Rattle.opcodes.proofs.Computed.{computed}

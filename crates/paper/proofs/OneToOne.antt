@@ -4,7 +4,7 @@ use Prim.Native.Nat.{ℕ, suc, _<_}
 use native.Mathlib.Omega.{arith}
 use lib.Dec.{lit<}
 use Rattle.paper.specs.Versions.{named}
-use Rattle.paper.specs.Numbers.{numberOf, refusal, ToldVerdict, told, ToldNamed, toldNamed, ToldInstruction, toldInstruction}
+use Rattle.paper.specs.Numbers.{numberOf, reasonBy, refusal, ToldVerdict, told, ToldNamed, toldNamed, ToldInstruction, toldInstruction}
 use Rattle.paper.proofs.VersionTokens.{named-back}
 use Rattle.paper.specs.declared.Named.{Named}
 use Rattle.paper.specs.declared.Named.the-variants.{Known, Unknown}
