@@ -20,22 +20,10 @@ returns-3 c =
     let g = c .before .before .before .before .before .args in
     sym (not-held (g .buffer .now) (g .n) (g .i) (g .j) (g .run .now) (omega arith) (omega arith) (omega arith))
 
-sub-if4 : tie.Need-sub-if4
-sub-if4 c = search needs
-
-sub-if4-2 : tie.Need-sub-if4-2
-sub-if4-2 c = search needs
-
 returns-4 : tie.Need-returns-4
 returns-4 c =
     let g = c .before .before .before .before .before .before .args in
     sym (no-room (g .buffer .now) (g .n) (g .i) (g .j) (g .run .now) (omega arith) (omega arith) (omega arith) (omega arith))
-
-put-run-requires : tie.Need-put-run-requires
-put-run-requires c κs = search needs
-
-same-length : tie.Need-same-length
-same-length c = search needs
 
 returns-5 : tie.Need-returns-5
 returns-5 c =
@@ -50,9 +38,9 @@ splice-in-spec =
     returns
     returns-2
     returns-3
-    sub-if4
-    sub-if4-2
+    (λ c. search needs)
+    (λ c. search needs)
     returns-4
-    put-run-requires
-    same-length
+    (λ c κs. search needs)
+    (λ c. search needs)
     returns-5)
