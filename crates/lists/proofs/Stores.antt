@@ -6,8 +6,8 @@ use mathlib.Core.List.{List, [], _∷_, _++_}
 use native.Mathlib.Nat.{add-zero}
 use native.Mathlib.Numerals.{add-one}
 use native.Mathlib.Omega.{arith}
-use lib.ListN.{length, take, drop, getD, set}
-use lib.Seq.{sets, sets-eq, take-suc, drop-cons, take-all, take-at, length-take-le, set-comm, getD-set-other}
+use lib.ListN.{length, take, drop, getD, set, length-drop}
+use lib.Seq.{sets, sets-eq, take-suc, drop-cons, take-all, take-at, length-take-le, set-comm, getD-set-other, getD-take, getD-drop}
 
 -- a run, and a run behind it
 pub sets-append : (a b l : List ℕ) (i : ℕ) → sets l i (a ++ b) ≡ sets (sets l i a) (i + length a) b
@@ -50,6 +50,14 @@ module _ (old source : List ℕ) (at : ℕ) where
   one-before held k p v h place value e =
       let next : at + suc k ≡ suc (at + k) = omega arith in
       rw (e, place, value, drop-cons source k 0 h, next) (set-before (drop (suc k) source) old (suc (at + k)) (at + k) (getD source k 0) (omega arith))
+
+-- a part of a list
+module _ (xs : List ℕ) (from n : ℕ) (inside : from + n ≤ length xs) where
+  pub part-length : length (take n (drop from xs)) ≡ n
+  part-length = length-take-le n (drop from xs) (omega (arith, length-drop from xs))
+
+  pub part-at : (k : ℕ) → k < n → getD xs (from + k) 0 ≡ getD (take n (drop from xs)) k 0
+  part-at k h = rw (getD-take n (drop from xs) k 0 h, getD-drop)
 
 -- at the front
 pub front-stored : (old source held : List ℕ) (n : ℕ) → n ≤ length old → n ≡ length source → held ≡ sets old 0 source → take n held ≡ source

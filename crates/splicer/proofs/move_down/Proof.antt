@@ -4,8 +4,8 @@ use native.Mathlib.Omega.{arith}
 use lib.ListN.{length, take, drop, length-take}
 use lib.Seq.{sets}
 use borrow.Author.Needs.{needs}
-use Rattle.lists.proofs.Stores.{one-behind, all-behind}
-use Rattle.splicer.proofs.Moving.{moved-length, unreached}
+use Rattle.lists.proofs.Stores.{one-behind, all-behind, part-length}
+use Rattle.splicer.proofs.Moving.{unreached}
 use Rattle.splicer.proofs.move_down.Statement.{statement}
 use Rattle.splicer.proofs.move_down.Tie as tie
 
@@ -21,7 +21,7 @@ loop-again c =
     let g = c .before .before .before .args in
     let l = c .before .before .loop in
     let source = take (g .count) (drop (g .from) (g .buffer .now)) in
-    let long = moved-length (g .buffer .now) (g .from) (g .count) (omega arith) in
+    let long = part-length (g .buffer .now) (g .from) (g .count) (omega arith) in
     let token = unreached (g .buffer .now) (g .from) (g .count) (omega arith) (l .buffer) (take (l .moved) source) (g .to) (l .moved) (omega arith)
     (λ h. omega (arith, length-take (l .moved) source)) (l .inv .2) in
     (search needs, search needs, one-behind (g .buffer .now) source (g .to) (l .buffer) (l .moved) _ _ (omega arith) (omega arith) token (l .inv .2))
@@ -30,7 +30,7 @@ returns : tie.Need-returns Inv-loop μ-loop
 returns c =
     let g = c .before .before .args in
     let l = c .before .loop in
-    let long = moved-length (g .buffer .now) (g .from) (g .count) (omega arith) in
+    let long = part-length (g .buffer .now) (g .from) (g .count) (omega arith) in
     all-behind (g .buffer .now) (take (g .count) (drop (g .from) (g .buffer .now))) (g .to) (l .buffer) (l .moved) (omega arith) (l .inv .2)
 
 pub move-down-spec : {M : Type 1} → statement M

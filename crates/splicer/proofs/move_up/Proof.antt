@@ -5,8 +5,8 @@ use native.Mathlib.Omega.{arith}
 use lib.ListN.{length, take, drop, drop-of-length-le}
 use lib.Seq.{sets}
 use borrow.Author.Needs.{needs}
-use Rattle.lists.proofs.Stores.{one-before}
-use Rattle.splicer.proofs.Moving.{moved-length, unreached}
+use Rattle.lists.proofs.Stores.{one-before, part-length}
+use Rattle.splicer.proofs.Moving.{unreached}
 use Rattle.splicer.proofs.move_up.Statement.{statement}
 use Rattle.splicer.proofs.move_up.Tie as tie
 
@@ -21,7 +21,7 @@ loop-holds : tie.Need-loop-holds Inv-loop μ-loop
 loop-holds c =
     let g = c .args in
     let source = take (g .count) (drop (g .from) (g .buffer .now)) in
-    let short : length source ≤ g .count = omega (arith, moved-length (g .buffer .now) (g .from) (g .count) (omega arith)) in
+    let short : length source ≤ g .count = omega (arith, part-length (g .buffer .now) (g .from) (g .count) (omega arith)) in
     (search needs, search needs, rw (drop-of-length-le source short))
 
 loop-again : tie.Need-loop-again Inv-loop μ-loop
@@ -29,7 +29,7 @@ loop-again c =
     let g = c .before .before .before .args in
     let l = c .before .before .loop in
     let source = take (g .count) (drop (g .from) (g .buffer .now)) in
-    let long = moved-length (g .buffer .now) (g .from) (g .count) (omega arith) in
+    let long = part-length (g .buffer .now) (g .from) (g .count) (omega arith) in
     let next : l .left ≡ suc (l .left - 1) = omega arith in
     let token = unreached (g .buffer .now) (g .from) (g .count) (omega arith) (l .buffer) (drop (l .left) source) (g .to + l .left) (l .left - 1) (omega arith)
     (λ h. omega arith) (l .inv .2) in
