@@ -23,7 +23,7 @@ use Rattle.records.specs.declared.Record.{Record}
 use Rattle.records.specs.Record.{instructionRecord}
 use Rattle.records.proofs.Heads.{IsListed}
 use Rattle.record_tokens.specs.Tokens.{tokensOf}
-use Rattle.writer.specs.Row.{rowNumber, rowOf, encodedBy, encodedTokens}
+use Rattle.writer.specs.Row.{operandCount, rowNumber, rowOf, encodedBy, encodedTokens}
 
 -- what may be predicated has an operand
 some-place : (v : Version) (opcode : ℕ) (places : List Place) → mayBePredicated v opcode places ≡ true → length places ≡ 0 → ⊥
@@ -39,20 +39,20 @@ module _ (v : Version) (opcode : ℕ) where
         rw (shape-step v opcode places e, m refl, ne-eqb (length places) 0 (some-place v opcode places (m refl)), shape-places v opcode places e)
         (rw (m refl) at (decoded-predicated v opcode places e (m refl)))
 
-    few-by : (marked may : Bool) → mayBePredicated v opcode places ≡ may → length (decoded (rowNumber (shapeOf v opcode) marked)) ≤ 6
+    few-by : (marked may : Bool) → mayBePredicated v opcode places ≡ may → length (decoded (rowNumber (shapeOf v opcode) marked)) ≤ operandCount
     unfolding rowNumber
     few-by false may m =
         rw (row-listed false (λ no. let z : _≡_ {A = ℕ} 0 1 = cc in absurd (omega arith)), without-predicate places) (omega (arith, few v opcode places e))
     few-by true true m = rw (row-listed true (λ is. m), predicated-length places) (omega (arith, few v opcode places e))
     few-by true false m = rw (shape-step v opcode places e, m, decoded-zero) (omega arith)
 
-  entry-few : (marked : Bool) (entry : Entry) → entryOf v opcode ≡ entry → length (decoded (rowNumber (shapeOf v opcode) marked)) ≤ 6
+  entry-few : (marked : Bool) (entry : Entry) → entryOf v opcode ≡ entry → length (decoded (rowNumber (shapeOf v opcode) marked)) ≤ operandCount
   unfolding rowNumber placesBy
   entry-few false absent e = rw (shape-absent v opcode e, decoded-zero) (omega arith)
   entry-few true absent e = rw (shape-absent v opcode e, decoded-zero) (omega arith)
   entry-few marked (listed places) e = few-by places e marked (mayBePredicated v opcode places) refl
 
-  pub row-few : (marked : Bool) → length (decoded (rowNumber (shapeOf v opcode) marked)) ≤ 6
+  pub row-few : (marked : Bool) → length (decoded (rowNumber (shapeOf v opcode) marked)) ≤ operandCount
   row-few marked = entry-few marked (entryOf v opcode) refl
 
 module _ (v : Version) (r : Record) where

@@ -16,6 +16,7 @@ use Rattle.places.proofs.Decoding.{decoded-zero, decoded-step}
 use Rattle.records.specs.declared.Operand.{Operand}
 use Rattle.records.specs.Record.{noOperand}
 use Rattle.record_tokens.specs.Tokens.{tokenOf, middleOf, operandToken, relativeTokenOf, operandTokens, rowTokens}
+use Rattle.writer.specs.Row.{operandCount}
 
 -- one operand
 module _ (place : Place) (operand : Operand) where
@@ -65,6 +66,6 @@ pub slot-few : (predicate : Bool) (held slot : ℕ) → held ≤ 5 → slot ≡ 
 slot-few true held slot h e = omega arith
 slot-few false held slot h e = omega arith
 
-pub held-few : (predicate : Bool) (held next left : ℕ) → held + suc left ≤ 6 → next ≡ pick predicate held (held + 1) → next + left ≤ 6
+pub held-few : (predicate : Bool) (held next left : ℕ) → held + suc left ≤ operandCount → next ≡ pick predicate held (held + 1) → next + left ≤ operandCount
 held-few true held next left h e = omega arith
 held-few false held next left h e = omega arith

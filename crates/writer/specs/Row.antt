@@ -1,6 +1,6 @@
 -- The tokens of a record that is no comment's, as the code finds them: the places of its operands are one number, the predicate's among
 -- them. A record that no reading yields may be given others.
-use Prim.Native.Nat.{ℕ, _^_}
+use Prim.Native.Nat.{ℕ, _+_, _*_, _^_}
 use mathlib.Core.Bool.{Bool}
 use mathlib.Core.List.{List, [], _∷_}
 use lib.Dec.{eqb}
@@ -14,6 +14,13 @@ use Rattle.opcodes.specs.Shape.{shapeOf}
 use Rattle.instruction_token.specs.Encoded.{stepIn, placesBy}
 use Rattle.records.specs.declared.Record.{Record}
 use Rattle.record_tokens.specs.Tokens.{instructionToken, tokensBehind}
+
+-- a record's array has so many operands, and an instruction so many tokens at most: its first one, and two for each operand
+abbrev pub operandCount : ℕ
+operandCount = 6
+
+abbrev pub mostEncoded : ℕ
+mostEncoded = 1 + 2 * operandCount
 
 -- the places of a shape, and the predicate's where the record is marked; none where it may not be
 unfoldable pub rowNumber : ℕ → Bool → ℕ

@@ -14,7 +14,7 @@ ghost use Rattle.reader.specs.Reading.{reading};
 ghost use Rattle.record_tokens.specs.Tokens.{tokenOf, middleOf, operandTokens, rowTokens, headToken};
 ghost use Rattle.writer.specs.Same.{sameOperand, sameFields, sameRecord};
 ghost use Rattle.writer.specs.Buffer.{word, Put};
-ghost use Rattle.writer.specs.Row.{rowNumber, rowOf, encodedTokens};
+ghost use Rattle.writer.specs.Row.{operandCount, mostEncoded, rowNumber, encodedTokens};
 ghost use Rattle.writer.specs.Writing.{toldWriting, Writes};
 ghost use Rattle.writer.specs.Decided.{yieldedComment, gives, Encodes, room, contentAfter, writingIn, contentIn};
 use paper::Named;
@@ -31,8 +31,8 @@ const LONGEST_COMMENT: usize = paper::MOST_TOKENS - 1;
 // The operands of a record, the predicate's last.
 const OPERANDS: usize = 6;
 
-// No instruction but a comment has so many tokens.
-const MOST_ENCODED: usize = 16;
+// No instruction but a comment has more tokens than its first one and two for each operand.
+const MOST_ENCODED: usize = 1 + 2 * OPERANDS;
 
 // What a shape says: below this its places, above it behind how many of them the predicate stands.
 const SHAPE_PLACES: u64 = 0x8_0000_0000;
@@ -157,8 +157,8 @@ fn choose(test: bool, first: usize, second: usize) -> usize
 // The operands of a row of places from place 1 of the room on, those in token order one after the other, and the predicate's where the row
 // has it. The next place.
 fn put_row(room: &mut [u32], row: u64, operands: [Operand; OPERANDS]) -> usize
-    requires { ⌜ (length (decoded row) ≤ 6) × (13 ≤ length (now room)) ⌝ }
-    ensures { λ next. ⌜ Put (rowTokens (decoded row) operands (getD operands 5 noOperand)) (now (room .entry)) 1 next (now (room .exit)) × (next ≤ 13) ⌝ }
+    requires { ⌜ (length (decoded row) ≤ operandCount) × (mostEncoded ≤ length (now room)) ⌝ }
+    ensures { λ next. ⌜ Put (rowTokens (decoded row) operands (getD operands 5 noOperand)) (now (room .entry)) 1 next (now (room .exit)) × (next ≤ mostEncoded) ⌝ }
 {
     let mut left = row;
     let mut next = 1;
@@ -190,8 +190,8 @@ fn row_of(shape: u64, marked: bool) -> u64
 
 // The tokens of a record that is no comment's, at the front of the room. How many there are.
 fn put_record(room: &mut [u32], version: Version, instruction: Record) -> usize
-    requires { ⌜ 13 ≤ length (now room) ⌝ }
-    ensures { λ next. ⌜ Put (encodedTokens version instruction) (now (room .entry)) 0 next (now (room .exit)) × (next ≤ 13) ⌝ }
+    requires { ⌜ mostEncoded ≤ length (now room) ⌝ }
+    ensures { λ next. ⌜ Put (encodedTokens version instruction) (now (room .entry)) 0 next (now (room .exit)) × (next ≤ mostEncoded) ⌝ }
 {
     if instruction.opcode == paper::END {
         room[0] = paper::END;
@@ -244,7 +244,7 @@ fn is_comment(instruction: Record) -> bool
 // What stands before the body that a record is lent, at the front of the room: a comment's first token, or the tokens of any other record,
 // read back. How many there are, none if reading yields no such record or the body's length does not agree.
 fn encode(room: &mut [u32], version: u32, known: Version, instruction: Record, lent: usize) -> usize
-    requires { ⌜ (version ≡ versionToken known) × (13 ≤ length (now room)) ⌝ }
+    requires { ⌜ (version ≡ versionToken known) × (mostEncoded ≤ length (now room)) ⌝ }
     ensures { λ count. ⌜ Encodes known instruction lent count (now (room .exit)) ⌝ }
 {
     let size = instruction.extent;

@@ -6,6 +6,7 @@ use lib.Seq.{length-sets}
 use Rattle.places.specs.Places.{placeBy, decoded}
 use Rattle.records.specs.Record.{noOperand}
 use Rattle.record_tokens.specs.Tokens.{rowTokens}
+use Rattle.writer.specs.Row.{operandCount, mostEncoded}
 use Rattle.writer.proofs.Paste.{Rest, rest-on, rest-none}
 use Rattle.writer.proofs.Row.{places-step, row-step, row-none, operand-few, slot-few, held-few}
 use borrow.Author.Needs.{needs}
@@ -16,8 +17,8 @@ abbrev Inv-loop : tie.InvT-loop
 Inv-loop room₀ row operands left₀ next₀ held₀ room left next held =
     (left ≤ row)
     × (length room ≡ length room₀)
-    × (held + length (decoded left) ≤ 6)
-    × (next + 2 * length (decoded left) ≤ 13)
+    × (held + length (decoded left) ≤ operandCount)
+    × (next + 2 * length (decoded left) ≤ mostEncoded)
     × Rest (rowTokens (decoded row) operands (getD operands 5 noOperand)) room₀ 1 (rowTokens (decoded left) (drop held operands) (getD operands 5 noOperand)) next room
 
 abbrev μ-loop : tie.MeasureT-loop

@@ -4,6 +4,7 @@ use mathlib.Core.Path.{_≡_, refl, sym, _∙_}
 use mathlib.Core.Bool.{true}
 use lib.ListN.{length, drop, length-map}
 use borrow.Author.Tests.{not-true, not-false}
+use Rattle.writer.specs.Row.{operandCount}
 use Rattle.writer.specs.Same.{sameFields, sameOperands, sameRecord}
 use Rattle.writer.proofs.Same.{same-step, same-done}
 use borrow.Author.Needs.{needs}
@@ -11,15 +12,15 @@ use Rattle.writer.proofs.same_record.Statement.{statement}
 use Rattle.writer.proofs.same_record.Tie as tie
 
 abbrev Inv-loop : tie.InvT-loop
-Inv-loop a b i₀ i = (i ≤ 6) × (sameFields a b ≡ true) × (sameOperands (drop i (a .operands)) (drop i (b .operands)) ≡ sameOperands (a .operands) (b .operands))
+Inv-loop a b i₀ i = (i ≤ operandCount) × (sameFields a b ≡ true) × (sameOperands (drop i (a .operands)) (drop i (b .operands)) ≡ sameOperands (a .operands) (b .operands))
 
 abbrev μ-loop : tie.MeasureT-loop
-μ-loop a b i₀ i = 6 - i
+μ-loop a b i₀ i = operandCount - i
 
-six1 : (c : tie.Start Inv-loop μ-loop) → length (c .args .t1 .operands) ≡ 6
+six1 : (c : tie.Start Inv-loop μ-loop) → length (c .args .t1 .operands) ≡ operandCount
 six1 c = simp length-map at (c .good .0 .1 .1 .1 .1 .1 .1 .0 .1 .0 .1)
 
-six2 : (c : tie.Start Inv-loop μ-loop) → length (c .args .t2 .operands) ≡ 6
+six2 : (c : tie.Start Inv-loop μ-loop) → length (c .args .t2 .operands) ≡ operandCount
 six2 c = simp length-map at (c .good .1 .0 .1 .1 .1 .1 .1 .1 .0 .1 .0 .1)
 
 returns : tie.Need-returns Inv-loop μ-loop
