@@ -1,7 +1,7 @@
 -- Elements stored one after the other from a place on, `sets` of the library: a loop stores the next one behind those that are stored, or
 -- from the last one back the next one before them. What no store reaches is as before.
 use Prim.Native.Nat.{ℕ, suc, _+_, _≤_, _<_}
-use mathlib.Core.Path.{_≡_, refl, sym, ap, _∙_}
+use mathlib.Core.Path.{_≡_, refl, sym, _∙_}
 use mathlib.Core.List.{List, [], _∷_, _++_}
 use native.Mathlib.Nat.{add-zero}
 use native.Mathlib.Numerals.{add-one}

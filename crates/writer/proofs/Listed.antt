@@ -32,7 +32,7 @@ some-place v opcode (place ∷ places) may z = omega arith
 
 module _ (v : Version) (opcode : ℕ) where
   module _ (places : List Place) (e : entryOf v opcode ≡ listed places) where
-    pub row-listed : (marked : Bool) → (marked ≡ true → mayBePredicated v opcode places ≡ true) → decoded (rowNumber (shapeOf v opcode) marked) ≡ withPredicate marked places
+    row-listed : (marked : Bool) → (marked ≡ true → mayBePredicated v opcode places ≡ true) → decoded (rowNumber (shapeOf v opcode) marked) ≡ withPredicate marked places
     unfolding rowNumber placesBy
     row-listed false m = rw (shape-places v opcode places e, decoded-digits v opcode places e) (sym (without-predicate places))
     row-listed true m =

@@ -26,7 +26,7 @@ use Rattle.record_tokens.specs.Tokens.{Words, commentToken, tokensOf, commentBo
 use Rattle.record_tokens.proofs.WrittenBack.{written-back}
 use Rattle.record_tokens.proofs.ReadBack.{comment-judged, comment-read}
 use Rattle.writer.specs.Same.{sameRecord}
-use Rattle.writer.specs.Buffer.{word, wordsOf}
+use Rattle.writer.specs.Buffer.{wordsOf}
 use Rattle.writer.specs.Row.{encodedTokens}
 use Rattle.writer.specs.Writing.{Yielded, Writable}
 use Rattle.writer.specs.Decided.{longestComment, yieldedComment, isGot, gives, readsBack, writable}
@@ -35,7 +35,7 @@ use Rattle.writer.proofs.Same.{record-equal, record-own as record-same}
 use Rattle.writer.proofs.Readings.{Own, read-own, alone-read, Lawfully, lawfully, bodiless, comment-only, encoded-own}
 
 -- tokens cut to 32 bits are words, and words are not changed by it
-pub are-words : (tokens : List ℕ) → Words (wordsOf tokens)
+are-words : (tokens : List ℕ) → Words (wordsOf tokens)
 unfolding Words wordsOf
 are-words [] k = omega arith
 are-words (token ∷ tokens) zero = omega arith
