@@ -96,29 +96,36 @@ fn raw_token(operand: Operand) -> u32
 }
 
 // A token of these fields, cut to 32 bits. No sum of fields passes 64 bits, whatever they are.
+fn token_of(number: u32, kind: u32, relative: u32, middle: u64) -> u32
+    requires { ⌜ middle < 2 ^ 42 ⌝ }
+    ensures { λ r. ⌜ r ≡ word (tokenOf number kind relative middle) ⌝ }
+{
+    let kind = kind as u64;
+    let token = number as u64
+        + (0x800 * (kind / 8)
+            + (0x2000 * relative as u64
+                + (0x1_0000 * middle + (0x1000_0000 * (kind % 8) + 0x8000_0000))));
+    (token % 0x1_0000_0000) as u32
+}
+
 fn operand_token(operand: Operand) -> u32
     ensures { λ r. ⌜ r ≡ word (tokenOf (operand .number) (operand .kind) (operand .relative) (middleOf operand)) ⌝ }
 {
-    let kind = operand.kind as u64;
     let middle = operand.mask as u64
         + operand.swizzle as u64
         + (0x10 * operand.result as u64 + 0x100 * operand.modifier as u64);
-    let token = operand.number as u64
-        + (0x800 * (kind / 8)
-            + (0x2000 * operand.relative as u64
-                + (0x1_0000 * middle + (0x1000_0000 * (kind % 8) + 0x8000_0000))));
-    (token % 0x1_0000_0000) as u32
+    token_of(operand.number, operand.kind, operand.relative, middle)
 }
 
 fn relative_token(operand: Operand) -> u32
     ensures { λ r. ⌜ r ≡ word (tokenOf (operand .«relative_number») (operand .«relative_kind») 0 (operand .«relative_swizzle»)) ⌝ }
 {
-    let kind = operand.relative_kind as u64;
-    let token = operand.relative_number as u64
-        + (0x800 * (kind / 8)
-            + (0x1_0000 * operand.relative_swizzle as u64
-                + (0x1000_0000 * (kind % 8) + 0x8000_0000)));
-    (token % 0x1_0000_0000) as u32
+    token_of(
+        operand.relative_number,
+        operand.relative_kind,
+        0,
+        operand.relative_swizzle as u64,
+    )
 }
 
 fn first_token(opcode: u32, controls: u32, size: usize, predicated: u32) -> u32
