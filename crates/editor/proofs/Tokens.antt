@@ -4,11 +4,10 @@ use mathlib.Core.Path.{_≡_, refl, sym, ap, _∙_}
 use mathlib.Core.Bool.{Bool, true, false}
 use mathlib.Core.List.{List, _++_}
 use native.Mathlib.Nat.{add-zero}
-use native.Mathlib.Numerals.{add-one}
 use native.Mathlib.Omega.{arith}
 use lib.Dec.{leb}
-use lib.ListN.{length, take, drop, getD, set, length-append, length-drop, List·getD-append}
-use lib.Seq.{take-suc, take-suc-set, take-all, take-append-le, drop-append-add, drop-drop, getD-drop, getD-append-add, length-take-le}
+use lib.ListN.{length, take, drop, getD, length-append, length-drop, List·getD-append}
+use lib.Seq.{take-all, take-append-le, drop-append-add, drop-drop, getD-drop, getD-append-add, length-take-le}
 use borrow.Author.Tests.{leb-true, leb-false}
 use Rattle.paper.specs.Instruction.{judged}
 use Rattle.paper.specs.declared.Version.{Version}
@@ -60,15 +59,6 @@ module _ (run old : List ℕ) (j : ℕ) where
   past-run : (at : ℕ) → drop (length run + at) (behindRun run old j) ≡ drop (j + at) old
   unfolding behindRun
   past-run at = drop-append-add run (drop j old) at ∙ drop-drop at j old
-
-  -- one token more at the front of a window
-  pub gathered : (window : List ℕ) (from k : ℕ) → k < length window → from + k < length (behindRun run old j) →
-      take k window ≡ take k (drop from (behindRun run old j)) →
-      take (k + 1) (set window k (getD (behindRun run old j) (from + k) 0)) ≡ take (k + 1) (drop from (behindRun run old j))
-  gathered window from k h g e =
-      let tail = behindRun run old j in
-      let there : k < length (drop from tail) = omega (arith, length-drop from tail) in
-      rw (add-one k, take-suc-set window k (getD tail (from + k) 0) h, take-suc (drop from tail) k 0 there, getD-drop from tail k 0, e)
 
   module _ (i : ℕ) (inside : i ≤ length old) where
     -- the splice from i on

@@ -18,7 +18,7 @@ use Rattle.opcodes.proofs.Shapes.{unpredicated}
 use Rattle.records.proofs.PlaceKinds.{laid-by, brings-by}
 use Rattle.records.specs.declared.Operand.{Operand}
 use Rattle.records.specs.Record.{maskOf, resultOf, swizzleOf, noOperand, destinationOperand, sourceOperand, operandOf, widthAt, operandAt, inOrder, predicateOr, padded}
-use Rattle.records.specs.Encoded.{ordered}
+use Rattle.records.specs.ByClass.{ordered}
 use Rattle.records.proofs.Declared.{or-false}
 use Rattle.records.proofs.Filled.{width-some}
 use Rattle.records.proofs.Passed.{Passed, AllPassed, none, more}

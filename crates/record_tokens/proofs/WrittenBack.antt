@@ -20,7 +20,7 @@ use Rattle.paper.proofs.Bools.{both-left, both-right}
 use Rattle.paper.specs.Places.{Place, isPredicate}
 use Rattle.records.specs.declared.Operand.{Operand}
 use Rattle.records.specs.Record.{noOperand, inOrder, predicateOr, padded, arrayOf, declaredPlaces, instructionRecord, recordOn, recordOf}
-use Rattle.records.specs.Encoded.{ordered}
+use Rattle.records.specs.ByClass.{ordered}
 use Rattle.opcodes.proofs.Shapes.{unpredicated, row-unpredicated}
 use Rattle.records.proofs.Heads.{IsListed, is-end, is-comment, is-dcl, is-operation, operation-few}
 use Rattle.records.proofs.Passed.{AllPassed, all-passed}

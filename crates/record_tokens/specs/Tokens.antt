@@ -44,8 +44,11 @@ rowTokens (place ∷ places) inOrder predicated =
     (operandTokens place (getD inOrder 0 noOperand) ++ rowTokens places (drop 1 inOrder) predicated)
 
 -- "Bits 27:24 are the size without this token." "Bit 28 says predicated"
+abbrev pub headToken : ℕ → ℕ → ℕ → ℕ → ℕ
+headToken opcode controls size predicated = opcode + (2 ^ 16 * controls + (2 ^ 24 * size + 2 ^ 28 * predicated))
+
 abbrev pub instructionToken : Record → ℕ → ℕ
-instructionToken r size = r .opcode + (2 ^ 16 * r .controls + (2 ^ 24 * size + 2 ^ 28 * r .predicated))
+instructionToken r size = headToken (r .opcode) (r .controls) size (r .predicated)
 
 abbrev pub commentToken : ℕ → ℕ
 commentToken n = commentOpcode + 2 ^ 16 * n

@@ -1,14 +1,14 @@
 // A run put into a buffer in place of some of its tokens: document 01, "The edit".
 ghost use mathlib.Core.Path.{_≡_};
 ghost use Prim.Native.Nat.{_+_, _-_, _<_, _≤_};
-ghost use lib.ListN.{length, drop};
-ghost use lib.Seq.{paste};
+ghost use lib.ListN.{length, take, drop};
+ghost use lib.Seq.{sets};
 ghost use Rattle.splicer.specs.Splicing.{withRun, splicedIn};
 
 // The `count` tokens from `from` on, moved to the lower place `to`, the first of them first.
 fn move_down(buffer: &mut [u32], from: usize, to: usize, count: usize)
     requires { ⌜ (to ≤ from) × (from + count ≤ length (now buffer)) ⌝ }
-    ensures { λ _. ⌜ now (buffer .exit) ≡ paste (now (buffer .entry)) to (drop from (now (buffer .entry))) count ⌝ }
+    ensures { λ _. ⌜ now (buffer .exit) ≡ sets (now (buffer .entry)) to (take count (drop from (now (buffer .entry)))) ⌝ }
 {
     let mut moved = 0usize;
     while moved < count {
@@ -21,7 +21,7 @@ fn move_down(buffer: &mut [u32], from: usize, to: usize, count: usize)
 // The same to a higher place, the last of them first.
 fn move_up(buffer: &mut [u32], from: usize, to: usize, count: usize)
     requires { ⌜ (from ≤ to) × (to + count ≤ length (now buffer)) ⌝ }
-    ensures { λ _. ⌜ now (buffer .exit) ≡ paste (now (buffer .entry)) to (drop from (now (buffer .entry))) count ⌝ }
+    ensures { λ _. ⌜ now (buffer .exit) ≡ sets (now (buffer .entry)) to (take count (drop from (now (buffer .entry)))) ⌝ }
 {
     let mut left = count;
     while 0 < left {
@@ -34,7 +34,7 @@ fn move_up(buffer: &mut [u32], from: usize, to: usize, count: usize)
 // The same to any place; tokens that stay are not touched.
 fn move_tokens(buffer: &mut [u32], from: usize, to: usize, count: usize)
     requires { ⌜ (from + count ≤ length (now buffer)) × (to + count ≤ length (now buffer)) ⌝ }
-    ensures { λ _. ⌜ now (buffer .exit) ≡ paste (now (buffer .entry)) to (drop from (now (buffer .entry))) count ⌝ }
+    ensures { λ _. ⌜ now (buffer .exit) ≡ sets (now (buffer .entry)) to (take count (drop from (now (buffer .entry)))) ⌝ }
 {
     if to < from {
         move_down(buffer, from, to, count);
@@ -49,7 +49,7 @@ fn move_tokens(buffer: &mut [u32], from: usize, to: usize, count: usize)
 // The run, written from `at` on.
 fn write_run(buffer: &mut [u32], at: usize, run: &[u32])
     requires { ⌜ at + length (now run) ≤ length (now buffer) ⌝ }
-    ensures { λ _. ⌜ now (buffer .exit) ≡ paste (now (buffer .entry)) at (now (run .entry)) (length (now (run .entry))) ⌝ }
+    ensures { λ _. ⌜ now (buffer .exit) ≡ sets (now (buffer .entry)) at (now (run .entry)) ⌝ }
 {
     let mut written = 0usize;
     while written < run.len() {

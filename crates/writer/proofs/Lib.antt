@@ -6,6 +6,7 @@ pub mod Listed
 pub mod Readings
 pub mod Yielding
 pub mod Answers
+pub mod Encoding
 pub mod Exactly
 pub mod ReadsBack
 pub mod StreamWrittenBack

@@ -1,91 +1,139 @@
--- What a reading that gives a record says of the tokens, and the reading of an instruction's own tokens from place 0.
-use mathlib.Core.Path.{_≡_, refl, ap}
+-- What a reading that gives a record says of the tokens: they are an instruction, which alone is read so too.
+use mathlib.Core.Path.{_≡_, refl, ap, _∙_}
 use mathlib.Core.Bool.{Bool, true, false}
 use mathlib.Core.List.{List, [], _∷_}
-use Prim.Native.Nat.{ℕ, _+_, _≤_, _<_}
+use Prim.Native.Nat.{ℕ, suc, _+_, _≤_}
 use native.Mathlib.Omega.{arith}
 use lib.Dec.{eqb, leb, ltb}
-use lib.ListN.{length, drop}
-use borrow.Author.Tests.{leb-true, ltb-true, le-leb, lt-ltb}
+use lib.ListN.{length, take, drop, length-drop}
+use lib.Seq.{length-take-le}
+use borrow.Author.Tests.{leb-true, le-leb, lt-ltb}
 use Rattle.paper.specs.Notation.{pick}
 use Rattle.paper.specs.Versions.{versionToken}
-use Rattle.paper.specs.Numbers.{refusal}
-use Rattle.paper.specs.InstructionToken.{commentOpcode}
-use Rattle.paper.specs.Instruction.{Head, broken, end, comment, dcl, operation, tokenHead, judged}
+use Rattle.paper.specs.InstructionToken.{opcodeOf, commentOpcode}
+use Rattle.paper.specs.Instruction.{Head, broken, end, comment, dcl, operation, tokenHead, byHead, judged}
+use Rattle.paper.specs.Blocks.{classOf}
 use Rattle.paper.specs.Stream.{mostTokens}
 use Rattle.paper.specs.declared.Version.{Version}
 use Rattle.paper.specs.declared.Reason.the-variants.{Length as LENGTH, RunOut as RUN-OUT}
 use Rattle.paper.specs.declared.Refusal.{Refusal}
 use Rattle.paper.specs.declared.Class.{Class}
+use Rattle.paper.specs.declared.Class.the-variants.{One}
+use Rattle.paper.specs.declared.Single.the-variants.{Comment}
 use Rattle.paper.specs.declared.Judged.{Judged}
 use Rattle.paper.specs.declared.Judged.the-variants.{Good as Lawful, Refused as Unlawful}
 use Rattle.paper.proofs.VersionTokens.{named-back}
+use Rattle.paper.proofs.OwnTokens.{within-good, good-within}
+use Rattle.records.specs.declared.Operand.{Operand}
 use Rattle.records.specs.declared.Record.{Record}
-use Rattle.records.specs.Record.{recordOn, recordOf}
+use Rattle.records.specs.Record.{endRecord, commentRecord, instructionRecord, recordOn, recordOf}
+use Rattle.records.proofs.Heads.{IsListed, is-comment, is-dcl, is-operation}
+use Rattle.records.proofs.OwnRecord.{judged-own, record-own}
 use Rattle.reader.specs.declared.Answer.the-variants.{Got, Refused}
 use Rattle.reader.specs.declared.Reading.{Reading}
 use Rattle.reader.specs.Reading.{unread, got, readJudged, readingAt, reading}
-use Rattle.record_tokens.specs.Tokens.{bodyOn, commentBody}
+use Rattle.record_tokens.specs.Tokens.{Words, tokensOf, bodyOn, commentBody}
+use Rattle.record_tokens.proofs.Operands.{words-drop, words-take}
+use Rattle.writer.specs.Writing.{bodyLength}
+use Rattle.writer.specs.Row.{encodedTokens}
+use Rattle.writer.proofs.Listed.{listed-encoded}
 
--- the tokens at the place are an instruction with this record
-pub record ReadFrom (v : Version) (tokens : List ℕ) (at next : ℕ) (r : Record) : Type 0 where
-  pub size : ℕ
+-- an instruction alone, with this record
+pub record Own (v : Version) (r : Record) : Type 0 where
+  pub first : ℕ
+  pub rest : List ℕ
   pub class : Class
-  pub few : length tokens ≤ mostTokens
-  pub some : at < length tokens
-  pub good : judged v (drop at tokens) ≡ Lawful size class
-  pub record-is : recordOf v (drop at tokens) ≡ r
-  pub next-is : at + size + 1 ≡ next
+  pub are-words : Words (first ∷ rest)
+  pub few : suc (length rest) ≤ mostTokens
+  pub good : judged v (first ∷ rest) ≡ Lawful (length rest) class
+  pub record-is : recordOf v (first ∷ rest) ≡ r
 
-same-got : (a b : ℕ) (i j : Record) → got a i ≡ got b j → (a ≡ b) × (i ≡ j)
-same-got a b i j e =
-    let answers : Got a ≡ Got b = ap (λ (x : Reading). x .answer) e in
-    (cc, ap (λ (x : Reading). x .instruction) e)
+own-tokens : (v : Version) (r : Record) (size : ℕ) (class : Class) (tokens : List ℕ) → judged v tokens ≡ Lawful size class → recordOf v tokens ≡ r → Words tokens →
+    length tokens ≤ mostTokens → Own v r
+unfolding judged
+own-tokens v r size class [] j is words short = let z : _≡_ {A = ℕ} 0 1 = cc in absurd (omega arith)
+own-tokens v r size class (first ∷ rest) j is words short =
+    let inside = good-within size class v (first ∷ rest) j in
+    let long : length (take size rest) ≡ size = length-take-le size rest (omega arith) in
+    record {
+      first = first;
+      rest = take size rest;
+      class = class;
+      are-words = words-take (suc size) (first ∷ rest) words;
+      few = omega arith;
+      good = rw long (judged-own v (first ∷ rest) j);
+      record-is = record-own v (first ∷ rest) j ∙ is;
+    }
 
-never-got : (reading : Reading) (next : ℕ) (r : Record) (P : Type 0) → (why : Refusal) → reading .answer ≡ Refused why → reading ≡ got next r → P
-never-got reading next r P why a e =
+never-got : (why : Refusal) (reading : Reading) (next : ℕ) (r : Record) {P : Type 0} → reading .answer ≡ Refused why → reading ≡ got next r → P
+never-got why reading next r a e =
     let answers : reading .answer ≡ Got next = ap (λ (x : Reading). x .answer) e in
     let z : _≡_ {A = ℕ} 0 1 = cc in absurd (omega arith)
 
-module _ (v : Version) (tokens : List ℕ) (at next : ℕ) (r : Record) where
-  by-judged : (j : Judged) → length tokens ≤ mostTokens → at < length tokens → judged v (drop at tokens) ≡ j →
-      readJudged j at (recordOf v (drop at tokens)) ≡ got next r → ReadFrom v tokens at next r
-  by-judged (Lawful size class) few some j e =
-      let same = same-got (at + size + 1) next (recordOf v (drop at tokens)) r e in
-      record { size = size; class = class; few = few; some = some; good = j; record-is = same .1; next-is = same .0 }
-  by-judged (Unlawful x) few some j e =
-      never-got (unread (x .reason) (at + x .position)) next r (ReadFrom v tokens at next r) (refusal (x .reason) (at + x .position)) refl e
+-- what a reading gives is an instruction's
+module _ (v : Version) (tokens : List ℕ) (at next : ℕ) (r : Record) (words : Words tokens) where
+  by-judged : (j : Judged) → length tokens ≤ mostTokens → judged v (drop at tokens) ≡ j → readJudged j at (recordOf v (drop at tokens)) ≡ got next r → Own v r
+  by-judged (Lawful size class) few j e =
+      own-tokens v r size class (drop at tokens) j (ap (λ (x : Reading). x .instruction) e) (words-drop at tokens words) (omega (arith, length-drop at tokens))
+  by-judged (Unlawful x) few j e = never-got _ _ next r refl e
 
-  by-place : (b : Bool) → length tokens ≤ mostTokens → ltb at (length tokens) ≡ b →
-      pick b (readJudged (judged v (drop at tokens)) at (recordOf v (drop at tokens))) (unread RUN-OUT (length tokens)) ≡ got next r → ReadFrom v tokens at next r
-  by-place true few t e = by-judged (judged v (drop at tokens)) few (ltb-true at (length tokens) t) refl e
-  by-place false few t e = never-got (unread RUN-OUT (length tokens)) next r (ReadFrom v tokens at next r) (refusal RUN-OUT (length tokens)) refl e
+  by-tests : (short there : Bool) → leb (length tokens) mostTokens ≡ short →
+      pick short (pick there (readJudged (judged v (drop at tokens)) at (recordOf v (drop at tokens))) (unread RUN-OUT (length tokens))) (unread LENGTH 0) ≡ got next r → Own v r
+  by-tests true true l e = by-judged (judged v (drop at tokens)) (leb-true (length tokens) mostTokens l) refl e
+  by-tests true false l e = never-got _ _ next r refl e
+  by-tests false there l e = never-got _ _ next r refl e
 
-  by-length : (b : Bool) → leb (length tokens) mostTokens ≡ b → pick b (readingAt v tokens at) (unread LENGTH 0) ≡ got next r → ReadFrom v tokens at next r
-  unfolding readingAt
-  by-length true l e = by-place (ltb at (length tokens)) (leb-true (length tokens) mostTokens l) refl e
-  by-length false l e = never-got (unread LENGTH 0) next r (ReadFrom v tokens at next r) (refusal LENGTH 0) refl e
+  pub read-own : reading (versionToken v) tokens at ≡ got next r → Own v r
+  unfolding reading readingAt
+  read-own e = by-tests (leb (length tokens) mostTokens) (ltb at (length tokens)) refl (rw (named-back v) at e)
 
-  pub read-from : reading (versionToken v) tokens at ≡ got next r → ReadFrom v tokens at next r
-  unfolding reading
-  read-from e = by-length (leb (length tokens) mostTokens) refl (rw (named-back v) at e)
-
--- from place 0
-pub reads-own : (v : Version) (tokens : List ℕ) {size : ℕ} {class : Class} → length tokens ≤ mostTokens → 0 < length tokens → judged v tokens ≡ Lawful size class →
-    reading (versionToken v) tokens 0 ≡ got (0 + size + 1) (recordOf v tokens)
+-- and is read from its tokens alone
+pub alone-read : (v : Version) (r : Record) (first : ℕ) (rest : List ℕ) {class : Class} → suc (length rest) ≤ mostTokens → judged v (first ∷ rest) ≡ Lawful (length rest) class →
+    recordOf v (first ∷ rest) ≡ r → reading (versionToken v) (first ∷ rest) 0 ≡ got (suc (length rest)) r
 unfolding reading readingAt
-reads-own v tokens few some j = rw (le-leb (length tokens) mostTokens few, named-back v, lt-ltb 0 (length tokens) some, j)
+alone-read v r first rest few good is =
+    let next : 0 + length rest + 1 ≡ suc (length rest) = omega arith in
+    rw (le-leb (suc (length rest)) mostTokens few, named-back v, lt-ltb 0 (suc (length rest)) (omega arith), good, next, is)
 
--- only a comment has a body
-module _ (v : Version) where
-  body-by : (h : Head) (first : ℕ) (rest : List ℕ) → eqb (recordOn h first rest .opcode) commentOpcode ≡ false → bodyOn h rest ≡ []
-  body-by (broken reason) first rest n = refl
-  body-by end first rest n = refl
-  body-by (comment length) first rest n = let z : _≡_ {A = ℕ} 0 1 = cc in absurd (omega arith)
-  body-by (dcl size) first rest n = refl
-  body-by (operation row size) first rest n = refl
+-- the record and the body of a lawful instruction, by what its first token says
+pub data Lawfully (v : Version) (first : ℕ) (rest : List ℕ) : Record → List ℕ → Type 0 where
+  an-end : Lawfully v first rest endRecord []
+  a-comment : {n : ℕ} → n ≤ length rest → Lawfully v first rest (commentRecord n) (take n rest)
+  an-entry : (operands : List Operand) → IsListed v first → Lawfully v first rest (instructionRecord first operands) []
 
-  pub no-body : (tokens : List ℕ) → eqb (recordOf v tokens .opcode) commentOpcode ≡ false → commentBody v tokens ≡ []
-  unfolding recordOf commentBody
-  no-body [] n = refl
-  no-body (first ∷ rest) n = body-by (tokenHead v first) first rest n
+module _ (v : Version) (first : ℕ) (rest : List ℕ) {size : ℕ} {class : Class} where
+  lawfully-by : (h : Head) (c : Class) → tokenHead v first ≡ h → byHead v h c rest ≡ Lawful size class → Lawfully v first rest (recordOn h first rest) (bodyOn h rest)
+  lawfully-by (broken reason) c e j = let z : _≡_ {A = ℕ} 0 1 = cc in absurd (omega arith)
+  lawfully-by end c e j = an-end
+  lawfully-by (comment n) c e j =
+      rw (is-comment v first n e .stated) (a-comment (within-good size class n rest (Lawful n (One Comment)) j .0))
+  lawfully-by (dcl n) c e j = an-entry _ (is-dcl v first n e .found)
+  lawfully-by (operation row n) c e j = an-entry _ (is-operation v first row n e .found)
+
+  pub lawfully : judged v (first ∷ rest) ≡ Lawful size class → Lawfully v first rest (recordOf v (first ∷ rest)) (commentBody v (first ∷ rest))
+  unfolding judged recordOf commentBody
+  lawfully j = lawfully-by (tokenHead v first) (classOf (opcodeOf first)) refl j
+
+-- only a comment has a body, and its record has nothing but its length
+module _ (v : Version) (first : ℕ) (rest : List ℕ) where
+  pub bodiless : {r : Record} {body : List ℕ} → Lawfully v first rest r body → eqb (r .opcode) commentOpcode ≡ false → body ≡ []
+  bodiless an-end n = refl
+  bodiless (a-comment h) n = let z : _≡_ {A = ℕ} 0 1 = cc in absurd (omega arith)
+  bodiless (an-entry operands l) n = refl
+
+  pub comment-only : {r : Record} {body : List ℕ} → Lawfully v first rest r body → eqb (r .opcode) commentOpcode ≡ true →
+      (r ≡ commentRecord (r .extent)) × (r .extent ≤ length rest)
+  comment-only an-end o = let z : _≡_ {A = ℕ} 0 1 = cc in absurd (omega arith)
+  comment-only (a-comment h) o = (refl, h)
+  comment-only (an-entry operands l) o = let no = l .no-comment in let z : _≡_ {A = ℕ} 0 1 = cc in absurd (omega arith)
+
+  pub body-agrees : {r : Record} {body : List ℕ} → Lawfully v first rest r body → length body ≡ bodyLength r
+  body-agrees an-end = refl
+  body-agrees (a-comment {n} h) = length-take-le n rest h
+  body-agrees (an-entry operands l) = rw (l .no-comment)
+
+  pub encoded-own : {r : Record} {body : List ℕ} → Lawfully v first rest r body → eqb (r .opcode) commentOpcode ≡ false → encodedTokens v r ≡ tokensOf v r []
+  unfolding encodedTokens tokensOf
+  encoded-own an-end n = refl
+  encoded-own (a-comment h) n = let z : _≡_ {A = ℕ} 0 1 = cc in absurd (omega arith)
+  encoded-own (an-entry operands l) n = listed-encoded v first operands l

@@ -1,56 +1,33 @@
 -- Demand 2: the records of a cutting, written in order with each comment's body lent back, give the tokens again.
-use mathlib.Core.Path.{_≡_, refl, sym, ap, _∙_}
+use mathlib.Core.Path.{_≡_, refl, ap, _∙_}
 use mathlib.Core.List.{List, [], _∷_, _++_, append-nil}
 use Prim.Native.Nat.{ℕ, zero, suc, _+_, _≤_}
 use native.Mathlib.Omega.{arith}
 use lib.Dec.{leb}
 use lib.ListN.{length, drop, getD, length-append, length-drop, drop-of-length-le}
-use lib.Seq.{take-length, length-take-le}
+use lib.Seq.{take-length}
 use borrow.Author.Tests.{leb-true}
 use Rattle.paper.specs.Versions.{versionToken}
-use Rattle.paper.specs.InstructionToken.{opcodeOf}
-use Rattle.paper.specs.Instruction.{Head, broken, end, comment, dcl, operation, tokenHead, byHead, judged}
-use Rattle.paper.specs.Blocks.{classOf}
 use Rattle.paper.specs.Stream.{mostTokens, verdict}
 use Rattle.paper.specs.declared.Version.{Version}
 use Rattle.paper.specs.declared.Class.{Class}
-use Rattle.paper.specs.declared.Class.the-variants.{One}
-use Rattle.paper.specs.declared.Single.the-variants.{Comment}
-use Rattle.paper.specs.declared.Judged.the-variants.{Good as Lawful}
 use Rattle.paper.specs.declared.Verdict.the-variants.{Accepted}
 use Rattle.paper.proofs.Bools.{both-right}
 use Rattle.paper.proofs.VersionTokens.{named-back}
 use Rattle.cutting.specs.Cuttings.{joined, Alone, Chunks, last, next, Cutting}
 use Rattle.cutting.proofs.AcceptedIsACutting.{accepted-is-a-cutting}
-use Rattle.paper.proofs.OwnTokens.{within-good}
-use Rattle.records.specs.Record.{recordOn, recordOf}
-use Rattle.records.proofs.Heads.{is-comment, is-dcl, is-operation}
-use Rattle.record_tokens.specs.Tokens.{Words, tokensOf, bodyOn, commentBody}
+use Rattle.records.specs.Record.{recordOf}
+use Rattle.record_tokens.specs.Tokens.{Words, tokensOf, commentBody}
 use Rattle.record_tokens.proofs.Operands.{words-drop}
 use Rattle.record_tokens.proofs.WrittenBack.{written-back}
 use Rattle.writer.specs.declared.Written.the-variants.{Wrote}
-use Rattle.writer.specs.Buffer.{pasted, onFront}
-use Rattle.writer.specs.Writing.{Yielded, bodyLength, ToldWriting, toldWriting, Writes, written}
+use Rattle.writer.specs.Buffer.{pasted}
+use Rattle.writer.specs.Writing.{Yielded, ToldWriting, toldWriting, Writes, written}
 use Rattle.writer.specs.InOrder.{Piece, piecesOf, WritesAll, all-written, next-written}
-use Rattle.writer.proofs.Paste.{pasted-on, pasted-front, length-pasted}
-use Rattle.writer.proofs.Readings.{reads-own}
+use Rattle.writer.proofs.Paste.{pasted-on, length-pasted}
+use Rattle.writer.proofs.Readings.{alone-read, lawfully, body-agrees}
 use Rattle.writer.proofs.Answers.{version-named}
 use Rattle.writer.proofs.Exactly.{one-writing}
-
--- the body that was read is as long as the record says
-module _ (v : Version) (first : ℕ) (rest : List ℕ) {size : ℕ} {class : Class} where
-  body-by : (h : Head) (c : Class) → tokenHead v first ≡ h → byHead v h c rest ≡ Lawful size class →
-      length (bodyOn h rest) ≡ bodyLength (recordOn h first rest)
-  body-by (broken reason) c e j = refl
-  body-by end c e j = refl
-  body-by (comment n) c e j = length-take-le n rest (within-good size class n rest (Lawful n (One Comment)) j .0) ∙ sym (is-comment v first n e .stated)
-  body-by (dcl n) c e j = rw (is-dcl v first n e .found .no-comment)
-  body-by (operation row n) c e j = rw (is-operation v first row n e .found .no-comment)
-
-body-agrees : (v : Version) (first : ℕ) (rest : List ℕ) {size : ℕ} {class : Class} → judged v (first ∷ rest) ≡ Lawful size class →
-    length (commentBody v (first ∷ rest)) ≡ bodyLength (recordOf v (first ∷ rest))
-unfolding judged recordOf commentBody
-body-agrees v first rest j = body-by v first rest (tokenHead v first) (classOf (opcodeOf first)) refl j
 
 -- one chunk
 module _ (v : Version) (first : ℕ) (rest : List ℕ) {class : Class} (words : Words (first ∷ rest)) (few : suc (length rest) ≤ mostTokens)
@@ -63,16 +40,16 @@ module _ (v : Version) (first : ℕ) (rest : List ℕ) {class : Class} (words : 
       record {
         tokens = first ∷ rest;
         at = 0;
-        next = 0 + length rest + 1;
+        next = suc (length rest);
         are-words = words;
-        read = reads-own v (first ∷ rest) few (omega arith) alone;
+        read = alone-read v (recordOf v (first ∷ rest)) first rest few alone refl;
       }
 
   chunk-written : (buffer : List ℕ) (at : ℕ) → at + suc (length rest) ≤ length buffer →
       Writes (versionToken v) (recordOf v (first ∷ rest)) (commentBody v (first ∷ rest)) buffer at (toldWriting (Wrote (at + suc (length rest)))) (pasted buffer at (first ∷ rest))
   chunk-written buffer at h =
       let own : Writes (versionToken v) (recordOf v (first ∷ rest)) (commentBody v (first ∷ rest)) buffer at _ _ =
-      written (named-back v) (record { yielded = chunk-yielded; agrees = body-agrees v first rest alone }) (rw chunk-back h) in
+      written (named-back v) (record { yielded = chunk-yielded; agrees = body-agrees v first rest (lawfully v first rest alone) }) (rw chunk-back h) in
       rw chunk-back at own
 
 words-front : (a b : List ℕ) → Words (a ++ b) → Words a
@@ -111,12 +88,11 @@ one-way {version} (next-written {piece} {buffer = buffer} {at = at} w p) (next-w
     let same = one-writing version (piece .instruction) (piece .body) buffer at x w in
     one-way p (rw (ap (λ (t : ToldWriting). t .next) (same .0), same .1) at q)
 
-whole : (buffer tokens : List ℕ) → length buffer ≡ length tokens → onFront buffer tokens ≡ tokens
-unfolding onFront
+whole : (buffer tokens : List ℕ) → length buffer ≡ length tokens → pasted buffer 0 tokens ≡ tokens
+unfolding pasted
 whole buffer tokens e =
-    let short : length buffer ≤ length tokens = omega arith in
-    let none : drop (length tokens) buffer ≡ [] = drop-of-length-le buffer short in
-    rw none (append-nil tokens)
+    let short : length buffer ≤ 0 + length tokens = omega arith in
+    rw (drop-of-length-le buffer short) (append-nil tokens)
 
 -- into a buffer of just their length: the tokens again
 pub stream-written-back : (v : Version) (tokens : List ℕ) (chunks : List (List ℕ)) (classes : List Class) → Cutting v tokens chunks classes → Words tokens →
@@ -125,7 +101,7 @@ pub stream-written-back : (v : Version) (tokens : List ℕ) (chunks : List (List
 stream-written-back v tokens chunks classes (cut, is) words few buffer long =
     let all = chunks-written-back cut (rw is words) (rw is few) buffer 0 (rw is (omega arith)) in
     let at-end : 0 + length tokens ≡ length tokens = omega arith in
-    rw (is, pasted-front buffer tokens, at-end, whole buffer tokens long) at all
+    rw (is, at-end, whole buffer tokens long) at all
 
 -- an accepted stream: the records of its cutting, in order, give the tokens behind its version again
 pub accepted-written-back : (s : List ℕ) (n : ℕ) (accept : verdict s ≡ Accepted n) → Words s → (buffer : List ℕ) → length buffer ≡ length (drop 1 s) →

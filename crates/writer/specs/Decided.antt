@@ -1,13 +1,15 @@
 -- How the code decides what the writer tells and leaves in the buffer: RECORD by a test, which encodes the record and reads it back.
-use Prim.Native.Nat.{ℕ, _+_}
+use Prim.Native.Nat.{ℕ, _+_, _-_, _≤_}
+use mathlib.Core.Path.{_≡_}
 use mathlib.Core.Bool.{Bool, true, false, _&&_}
-use mathlib.Core.List.{List, []}
+use mathlib.Core.List.{List, _++_}
 use lib.Dec.{eqb, leb}
-use lib.ListN.{length}
+use lib.ListN.{length, take}
 use Rattle.paper.specs.Notation.{pick}
 use Rattle.paper.specs.Versions.{versionToken, named}
 use Rattle.paper.specs.Numbers.{refusal}
 use Rattle.paper.specs.InstructionToken.{commentOpcode}
+use Rattle.paper.specs.Stream.{mostTokens}
 use Rattle.paper.specs.declared.Version.{Version}
 use Rattle.paper.specs.declared.Named.{Named}
 use Rattle.paper.specs.declared.Named.the-variants.{Known, Unknown}
@@ -23,15 +25,16 @@ use Rattle.writer.specs.declared.Written.{Written}
 use Rattle.writer.specs.declared.Written.the-variants.{Wrote, Refused}
 use Rattle.writer.specs.Same.{sameRecord}
 use Rattle.writer.specs.Buffer.{wordsOf, pasted}
+use Rattle.writer.specs.Row.{encodedTokens}
 
--- a comment's record has nothing but its length, and the reader takes no more than 16,384 tokens
+-- a comment's record has nothing but its length, and with its first token it is no longer than the longest stream
 abbrev pub longestComment : ℕ
-longestComment = 16383
+longestComment = mostTokens - 1
 
 abbrev pub yieldedComment : Record → Bool
 yieldedComment r = leb (r .extent) longestComment && sameRecord (commentRecord (r .extent)) r
 
--- any other record is yielded if its own tokens yield it
+-- any other record is yielded if the tokens that it is encoded by yield it
 abbrev pub isGot : Answer → Bool
 isGot (Got next) = true
 isGot (Unread r) = false
@@ -40,12 +43,19 @@ abbrev pub gives : Reading → Record → Bool
 gives reading r = isGot (reading .answer) && sameRecord (reading .instruction) r
 
 unfoldable pub readsBack : Version → Record → Bool
-readsBack v r = gives (reading (versionToken v) (wordsOf (tokensOf v r [])) 0) r
+readsBack v r = gives (reading (versionToken v) (wordsOf (encodedTokens v r)) 0) r
 
 -- the test of a record and of the length of a body
 unfoldable pub writable : Version → Record → ℕ → Bool
 writable v r n =
     pick (eqb (r .opcode) commentOpcode) (eqb n (r .extent) && yieldedComment r) (eqb n 0 && readsBack v r)
+
+-- what the code encodes of a record that is lent a body of so many tokens: so many tokens before the body, none if the test fails
+pub record Encodes (v : Version) (r : Record) (n count : ℕ) (tokens : List ℕ) : Type 0 where
+  pub inside : count ≤ length tokens
+  pub fails : count ≡ 0 → writable v r n ≡ false
+  pub passes : (count ≡ 0 → ⊥) → writable v r n ≡ true
+  pub stands : (count ≡ 0 → ⊥) → (body : List ℕ) → length body ≡ n → tokensOf v r body ≡ take count tokens ++ body
 
 -- the answer: a place past the buffer's end leaves no room either
 abbrev pub room : List ℕ → List ℕ → ℕ → Written

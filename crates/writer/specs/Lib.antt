@@ -4,5 +4,5 @@ pub mod Buffer
 pub mod Writing
 pub mod InOrder
 pub mod Same
-pub mod Decided
 pub mod Row
+pub mod Decided

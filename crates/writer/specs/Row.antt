@@ -1,26 +1,37 @@
--- The operands of a row as the code writes them: those in token order one after the other, then the predicate where it is to stand.
-use Prim.Native.Nat.{ℕ, _≤_}
+-- The tokens of a record that is no comment's, as the code finds them: the places of its operands are one number, the predicate's among
+-- them. A record that no reading yields may be given others.
+use Prim.Native.Nat.{ℕ, _+_, _*_, _^_}
 use mathlib.Core.Bool.{Bool}
-use mathlib.Core.List.{List, [], _∷_, _++_}
-use lib.ListN.{length, drop, getD}
+use mathlib.Core.List.{List, [], _∷_}
+use lib.Dec.{eqb}
+use lib.ListN.{length}
 use Rattle.paper.specs.Notation.{pick}
-use Rattle.paper.specs.Places.{Place, predicate}
-use Rattle.records.specs.declared.Operand.{Operand}
-use Rattle.records.specs.Record.{noOperand}
-use Rattle.record_tokens.specs.Tokens.{operandTokens}
+use Rattle.paper.specs.InstructionToken.{endOpcode, endToken}
+use Rattle.paper.specs.Places.{Place}
+use Rattle.paper.specs.declared.Version.{Version}
+use Rattle.places.specs.Places.{decoded}
+use Rattle.opcodes.specs.Shape.{shapeOf}
+use Rattle.instruction_token.specs.Encoded.{stepIn, placesBy}
+use Rattle.records.specs.declared.Record.{Record}
+use Rattle.record_tokens.specs.Tokens.{instructionToken, tokensBehind}
 
-unfoldable pub orderTokens : List Place → List Operand → List ℕ
-orderTokens [] operands = []
-orderTokens (place ∷ places) operands =
-    operandTokens place (getD operands 0 noOperand) ++ orderTokens places (drop 1 operands)
+-- a record's array has so many operands, and an instruction so many tokens at most: its first one, and two for each operand
+abbrev pub operandCount : ℕ
+operandCount = 6
 
-abbrev pub predicateTokens : Bool → List Operand → List ℕ
-predicateTokens predicated operands = pick predicated (operandTokens predicate (getD operands 5 noOperand)) []
+abbrev pub mostEncoded : ℕ
+mostEncoded = 1 + 2 * operandCount
 
-unfoldable pub behindTokens : List Place → Bool → List Operand → List ℕ
-behindTokens places predicated operands = orderTokens places operands ++ predicateTokens predicated operands
+-- the places of a shape, and the predicate's where the record is marked; none where it may not be
+unfoldable pub rowNumber : ℕ → Bool → ℕ
+rowNumber shape marked =
+    pick marked (pick (eqb (stepIn shape) 0) 0 (placesBy shape (2 ^ 28))) (placesBy shape 0)
 
--- the array holds an operand for each place, and there is room for the tokens
-pub record Placed (places : List Place) (tokens room : List ℕ) : Type 0 where
-  pub few : length places ≤ 5
-  pub fits : length tokens ≤ length room
+abbrev pub rowOf : Version → Record → List Place
+rowOf v r = decoded (rowNumber (shapeOf v (r .opcode)) (eqb (r .predicated) 1))
+
+abbrev pub encodedBy : Record → List Place → List ℕ
+encodedBy r places = instructionToken r (length (tokensBehind r places)) ∷ tokensBehind r places
+
+unfoldable pub encodedTokens : Version → Record → List ℕ
+encodedTokens v r = pick (eqb (r .opcode) endOpcode) (endToken ∷ []) (encodedBy r (rowOf v r))

@@ -1,23 +1,33 @@
--- A record compared with another, field by field.
+-- A record compared with another, number by number.
+use Prim.Native.Nat.{ℕ}
 use mathlib.Core.Bool.{Bool, true, false, _&&_}
 use mathlib.Core.List.{List, [], _∷_}
 use lib.Dec.{eqb}
 use Rattle.records.specs.declared.Operand.{Operand}
 use Rattle.records.specs.declared.Record.{Record}
 
+-- a number and those behind it, compared with others
+abbrev pub sameNumbers : ℕ → List ℕ → ℕ → List ℕ → Bool
+sameNumbers m [] n [] = eqb m n
+sameNumbers m [] n (k ∷ others) = false
+sameNumbers m (k ∷ rest) n [] = false
+sameNumbers m (k ∷ rest) n (l ∷ others) = eqb m n && sameNumbers k rest l others
+
+abbrev pub operandNumbers : Operand → List ℕ
+operandNumbers a =
+    a .kind
+    ∷ (a .mask
+    ∷ (a .swizzle
+    ∷ (a .modifier
+    ∷ (a .result
+    ∷ (a .relative
+    ∷ (a .«relative_number»
+    ∷ (a .«relative_kind»
+    ∷ (a .«relative_swizzle»
+    ∷ (a .raw ∷ [])))))))))
+
 abbrev pub sameOperand : Operand → Operand → Bool
-sameOperand a b =
-    eqb (a .number) (b .number)
-    && (eqb (a .kind) (b .kind)
-    && (eqb (a .mask) (b .mask)
-    && (eqb (a .swizzle) (b .swizzle)
-    && (eqb (a .modifier) (b .modifier)
-    && (eqb (a .result) (b .result)
-    && (eqb (a .relative) (b .relative)
-    && (eqb (a .«relative_number») (b .«relative_number»)
-    && (eqb (a .«relative_kind») (b .«relative_kind»)
-    && (eqb (a .«relative_swizzle») (b .«relative_swizzle»)
-    && eqb (a .raw) (b .raw))))))))))
+sameOperand a b = sameNumbers (a .number) (operandNumbers a) (b .number) (operandNumbers b)
 
 unfoldable pub sameOperands : List Operand → List Operand → Bool
 sameOperands [] [] = true
@@ -25,12 +35,11 @@ sameOperands [] (b ∷ others) = false
 sameOperands (a ∷ rest) [] = false
 sameOperands (a ∷ rest) (b ∷ others) = sameOperand a b && sameOperands rest others
 
+abbrev pub recordNumbers : Record → List ℕ
+recordNumbers a = a .controls ∷ (a .predicated ∷ (a .extent ∷ []))
+
 abbrev pub sameFields : Record → Record → Bool
-sameFields a b =
-    eqb (a .opcode) (b .opcode)
-    && (eqb (a .controls) (b .controls)
-    && (eqb (a .predicated) (b .predicated)
-    && eqb (a .extent) (b .extent)))
+sameFields a b = sameNumbers (a .opcode) (recordNumbers a) (b .opcode) (recordNumbers b)
 
 unfoldable pub sameRecord : Record → Record → Bool
 sameRecord a b = sameFields a b && sameOperands (a .operands) (b .operands)

@@ -1,21 +1,22 @@
 // The writer: document 01, "Records". One record, written into the part of a token buffer that starts at a given place.
 ghost use mathlib.Core.Path.{_≡_};
-ghost use mathlib.Core.Bool.{false};
-ghost use mathlib.Core.List.{[], _∷_};
-ghost use Prim.Native.Nat.{_+_, _%_, _^_, _≤_, _<_};
-ghost use lib.Dec.{eqb, leb};
-ghost use lib.ListN.{length};
+ghost use mathlib.Core.List.{_++_};
+ghost use Prim.Native.Nat.{_+_, _^_, _≤_, _<_};
+ghost use lib.Dec.{leb};
+ghost use lib.ListN.{length, getD};
+ghost use lib.Seq.{sets};
+ghost use Rattle.paper.specs.Notation.{pick};
 ghost use Rattle.paper.specs.Versions.{versionToken};
 ghost use Rattle.paper.specs.Numbers.{refusal};
-ghost use Rattle.paper.specs.InstructionToken.{commentOpcode};
 ghost use Rattle.places.specs.Places.{placeBy, decoded};
+ghost use Rattle.records.specs.Record.{noOperand};
 ghost use Rattle.reader.specs.Reading.{reading};
-ghost use Rattle.record_tokens.specs.Tokens.{operandToken, relativeTokenOf, operandTokens, commentToken, tokensOf};
+ghost use Rattle.record_tokens.specs.Tokens.{tokenOf, middleOf, operandTokens, rowTokens, headToken};
 ghost use Rattle.writer.specs.Same.{sameOperand, sameFields, sameRecord};
-ghost use Rattle.writer.specs.Buffer.{word, headToken, wordsOf, onFront};
+ghost use Rattle.writer.specs.Buffer.{word, Put};
+ghost use Rattle.writer.specs.Row.{operandCount, mostEncoded, rowNumber, encodedTokens};
 ghost use Rattle.writer.specs.Writing.{toldWriting, Writes};
-ghost use Rattle.writer.specs.Decided.{longestComment, yieldedComment, gives, readsBack, writingIn, contentIn};
-ghost use Rattle.writer.specs.Row.{orderTokens, behindTokens, Placed};
+ghost use Rattle.writer.specs.Decided.{yieldedComment, gives, Encodes, room, contentAfter, writingIn, contentIn};
 use paper::Named;
 use paper::Reason;
 use paper::Refusal;
@@ -24,22 +25,22 @@ use reader::Answer;
 use records::Operand;
 use records::Record;
 
-// Places, by their numbers in specs/Places.antt of the opcodes.
-const RAW: u64 = 1;
-
-const USAGE: u64 = 2;
-
-const PREDICATE: u64 = 93;
-
-const COMMENT: u32 = 0xFFFE;
-
-const END: u32 = 0xFFFF;
-
 // With its first token a comment is no longer than the longest stream.
-const LONGEST_COMMENT: u32 = 16383;
+const LONGEST_COMMENT: usize = paper::MOST_TOKENS - 1;
 
-// No instruction but a comment has so many tokens.
-const MOST_ENCODED: usize = 16;
+// The operands of a record, the predicate's last.
+const OPERANDS: usize = 6;
+
+// No instruction but a comment has more tokens than its first one and two for each operand.
+const MOST_ENCODED: usize = 1 + 2 * OPERANDS;
+
+// What a shape says: below this its places, above it behind how many of them the predicate stands.
+const SHAPE_PLACES: u64 = 0x8_0000_0000;
+
+const SHAPE_STEPS: u64 = 8;
+
+// The bit of an instruction token that says predicated.
+const MARK: u32 = 0x1000_0000;
 
 // The next place, or why nothing was written.
 pub enum Written {
@@ -77,7 +78,7 @@ fn same_record(a: Record, b: Record) -> bool
         return false;
     }
     let mut i = 0;
-    while i < 6 {
+    while i < OPERANDS {
         let x = a.operands[i];
         let y = b.operands[i];
         if !same_operand(x, y) {
@@ -95,33 +96,40 @@ fn raw_token(operand: Operand) -> u32
 }
 
 // A token of these fields, cut to 32 bits. No sum of fields passes 64 bits, whatever they are.
-fn operand_token(operand: Operand) -> u32
-    ensures { λ r. ⌜ r ≡ word (operandToken operand) ⌝ }
+fn token_of(number: u32, kind: u32, relative: u32, middle: u64) -> u32
+    requires { ⌜ middle < 2 ^ 42 ⌝ }
+    ensures { λ r. ⌜ r ≡ word (tokenOf number kind relative middle) ⌝ }
 {
-    let kind = operand.kind as u64;
-    let middle = operand.mask as u64
-        + operand.swizzle as u64
-        + (0x10 * operand.result as u64 + 0x100 * operand.modifier as u64);
-    let token = operand.number as u64
+    let kind = kind as u64;
+    let token = number as u64
         + (0x800 * (kind / 8)
-            + (0x2000 * operand.relative as u64
+            + (0x2000 * relative as u64
                 + (0x1_0000 * middle + (0x1000_0000 * (kind % 8) + 0x8000_0000))));
     (token % 0x1_0000_0000) as u32
 }
 
-fn relative_token(operand: Operand) -> u32
-    ensures { λ r. ⌜ r ≡ word (relativeTokenOf operand) ⌝ }
+fn operand_token(operand: Operand) -> u32
+    ensures { λ r. ⌜ r ≡ word (tokenOf (operand .number) (operand .kind) (operand .relative) (middleOf operand)) ⌝ }
 {
-    let kind = operand.relative_kind as u64;
-    let token = operand.relative_number as u64
-        + (0x800 * (kind / 8)
-            + (0x1_0000 * operand.relative_swizzle as u64
-                + (0x1000_0000 * (kind % 8) + 0x8000_0000)));
-    (token % 0x1_0000_0000) as u32
+    let middle = operand.mask as u64
+        + operand.swizzle as u64
+        + (0x10 * operand.result as u64 + 0x100 * operand.modifier as u64);
+    token_of(operand.number, operand.kind, operand.relative, middle)
 }
 
-fn instruction_token(opcode: u32, controls: u32, size: usize, predicated: u32) -> u32
-    requires { ⌜ size < 16 ⌝ }
+fn relative_token(operand: Operand) -> u32
+    ensures { λ r. ⌜ r ≡ word (tokenOf (operand .«relative_number») (operand .«relative_kind») 0 (operand .«relative_swizzle»)) ⌝ }
+{
+    token_of(
+        operand.relative_number,
+        operand.relative_kind,
+        0,
+        operand.relative_swizzle as u64,
+    )
+}
+
+fn first_token(opcode: u32, controls: u32, size: usize, predicated: u32) -> u32
+    requires { ⌜ size < 2 ^ 4 ⌝ }
     ensures { λ r. ⌜ r ≡ word (headToken opcode controls size predicated) ⌝ }
 {
     let token = opcode as u64
@@ -130,100 +138,83 @@ fn instruction_token(opcode: u32, controls: u32, size: usize, predicated: u32) -
     (token % 0x1_0000_0000) as u32
 }
 
-// One token at the front of the room.
-fn put_token(room: &mut [u32], token: u32)
-    requires { ⌜ 1 ≤ length (now room) ⌝ }
-    ensures { λ _. ⌜ now (room .exit) ≡ onFront (now (room .entry)) (token ∷ []) ⌝ }
+// An operand's tokens from a place of the room on: its own, and its relative token. The next place.
+fn put_operand(room: &mut [u32], at: usize, place: u64, operand: Operand) -> usize
+    requires { ⌜ at + 2 ≤ length (now room) ⌝ }
+    ensures { λ next. ⌜ Put (operandTokens (placeBy place) operand) (now (room .entry)) at next (now (room .exit)) ⌝ }
 {
-    room[0] = token;
-}
-
-// An operand at the front of the room: its token, and its relative token in the remainder. How many tokens it takes.
-fn put_operand(room: &mut [u32], place: u64, operand: Operand) -> usize
-    requires { ⌜ length (operandTokens (placeBy place) operand) ≤ length (now room) ⌝ }
-    ensures { λ n. ⌜ (n ≡ length (operandTokens (placeBy place) operand)) × (now (room .exit) ≡ onFront (now (room .entry)) (wordsOf (operandTokens (placeBy place) operand))) ⌝ }
-{
-    if (place == RAW) | (place == USAGE) {
-        room[0] = raw_token(operand);
-        return 1;
+    if places::is_raw(place) {
+        room[at] = raw_token(operand);
+        return at + 1;
     }
-    room[0] = operand_token(operand);
+    room[at] = operand_token(operand);
     if operand.relative == 1 {
-        put_token(&mut room[1..], relative_token(operand));
-        return 2;
+        room[at + 1] = relative_token(operand);
+        return at + 2;
     }
-    1
+    at + 1
 }
 
-// The operands of a row of places in token order, each in the remainder that the ones before it leave. How many tokens they take.
-fn put_row(room: &mut [u32], places: u64, operands: [Operand; 6]) -> usize
-    requires { ⌜ Placed (decoded places) (orderTokens (decoded places) operands) (now room) ⌝ }
-    ensures { λ n. ⌜ (n ≡ length (orderTokens (decoded places) operands)) × (now (room .exit) ≡ onFront (now (room .entry)) (wordsOf (orderTokens (decoded places) operands))) ⌝ }
+fn choose(test: bool, first: usize, second: usize) -> usize
+    ensures { λ r. ⌜ r ≡ pick test first second ⌝ }
 {
-    let mut left = places;
-    let mut at = 0;
+    if test { first } else { second }
+}
+
+// The operands of a row of places from place 1 of the room on, those in token order one after the other, and the predicate's where the row
+// has it. The next place.
+fn put_row(room: &mut [u32], row: u64, operands: [Operand; OPERANDS]) -> usize
+    requires { ⌜ (length (decoded row) ≤ operandCount) × (mostEncoded ≤ length (now room)) ⌝ }
+    ensures { λ next. ⌜ Put (rowTokens (decoded row) operands (getD operands 5 noOperand)) (now (room .entry)) 1 next (now (room .exit)) × (next ≤ mostEncoded) ⌝ }
+{
+    let mut left = row;
+    let mut next = 1;
     let mut held = 0;
     while left != 0 {
-        let operand = operands[held];
-        let taken = put_operand(&mut room[at..], left % 128, operand);
-        at += taken;
-        held += 1;
-        left = left / 128;
+        let place = left % places::BASE;
+        let predicate = places::is_predicate(place);
+        let slot = choose(predicate, OPERANDS - 1, held);
+        let operand = operands[slot];
+        next = put_operand(room, next, place, operand);
+        held = choose(predicate, held, held + 1);
+        left = left / places::BASE;
     }
-    at
+    next
 }
 
-// The operands of a row of places, and the predicate behind them.
-fn put_behind(room: &mut [u32], places: u64, predicated: bool, operands: [Operand; 6]) -> usize
-    requires { ⌜ Placed (decoded places) (behindTokens (decoded places) predicated operands) (now room) ⌝ }
-    ensures { λ n. ⌜ (n ≡ length (behindTokens (decoded places) predicated operands)) × (now (room .exit) ≡ onFront (now (room .entry)) (wordsOf (behindTokens (decoded places) predicated operands))) ⌝ }
+// The places of an opcode of this shape, and the predicate's where a record is marked; none where it may not be.
+fn row_of(shape: u64, marked: bool) -> u64
+    ensures { λ r. ⌜ r ≡ rowNumber shape marked ⌝ }
 {
-    let size = put_row(room, places, operands);
-    if predicated {
-        let operand = operands[5];
-        let taken = put_operand(&mut room[size..], PREDICATE, operand);
-        return size + taken;
+    if !marked {
+        return instruction_token::places_of(shape, 0);
     }
-    size
+    if shape / SHAPE_PLACES % SHAPE_STEPS == 0 {
+        return 0;
+    }
+    instruction_token::places_of(shape, MARK)
 }
 
-// The places of an opcode of this shape.
-fn places_of(shape: u64) -> u64
-    ensures { λ r. ⌜ r ≡ shape % 2 ^ 35 ⌝ }
-{
-    shape % 0x8_0000_0000
-}
-
-// The tokens of a record that is no comment's, at the front of the room. How many there are; none if the table lists no such opcode.
+// The tokens of a record that is no comment's, at the front of the room. How many there are.
 fn put_record(room: &mut [u32], version: Version, instruction: Record) -> usize
-    requires { ⌜ (eqb (instruction .opcode) commentOpcode ≡ false) × (length (tokensOf version instruction []) ≤ length (now room)) ⌝ }
-    ensures { λ n. ⌜ (n ≡ length (tokensOf version instruction [])) × (now (room .exit) ≡ onFront (now (room .entry)) (wordsOf (tokensOf version instruction []))) ⌝ }
+    requires { ⌜ mostEncoded ≤ length (now room) ⌝ }
+    ensures { λ next. ⌜ Put (encodedTokens version instruction) (now (room .entry)) 0 next (now (room .exit)) × (next ≤ mostEncoded) ⌝ }
 {
-    if instruction.opcode == END {
-        room[0] = END;
+    if instruction.opcode == paper::END {
+        room[0] = paper::END;
         return 1;
     }
     let shape = opcodes::shape_of(version, instruction.opcode);
-    if shape == 0 {
-        return 0;
-    }
-    let places = places_of(shape);
-    let predicated = instruction.predicated == 1;
+    let row = row_of(shape, instruction.predicated == 1);
     let operands = instruction.operands;
-    let size = put_behind(&mut room[1..], places, predicated, operands);
-    room[0] = instruction_token(
+    let next = put_row(room, row, operands);
+    room[0] = first_token(
         instruction.opcode,
         instruction.controls,
-        size,
+        next - 1,
         instruction.predicated,
     );
-    size + 1
-}
-
-// Whether reading yields a record, and how many tokens it has.
-struct Encoded {
-    yielded: bool,
-    count: usize,
+    next
 }
 
 fn is_yielded(version: u32, tokens: &[u32], instruction: Record) -> bool
@@ -238,28 +229,17 @@ fn is_yielded(version: u32, tokens: &[u32], instruction: Record) -> bool
     }
 }
 
-// The record's tokens, read back.
-fn read_back(version: u32, known: Version, instruction: Record) -> Encoded
-    requires { ⌜ (version ≡ versionToken known) × (eqb (instruction .opcode) commentOpcode ≡ false) ⌝ }
-    ensures { λ r. ⌜ (r .yielded ≡ readsBack known instruction) × (r .count ≡ length (tokensOf known instruction [])) ⌝ }
-{
-    let mut tokens = [0u32; MOST_ENCODED];
-    let count = put_record(&mut tokens, known, instruction);
-    let yielded = is_yielded(version, &tokens[..count], instruction);
-    Encoded { yielded, count }
-}
-
 // A comment's record has nothing but its length.
 fn is_comment(instruction: Record) -> bool
     ensures { λ r. ⌜ r ≡ yieldedComment instruction ⌝ }
 {
-    if LONGEST_COMMENT < instruction.extent {
+    if LONGEST_COMMENT < instruction.extent as usize {
         return false;
     }
     let none = records::no_record();
     let operands = none.operands;
     let own = Record {
-        opcode: COMMENT,
+        opcode: paper::COMMENT,
         controls: 0,
         predicated: 0,
         extent: instruction.extent,
@@ -268,24 +248,44 @@ fn is_comment(instruction: Record) -> bool
     same_record(own, instruction)
 }
 
-fn copy_body(room: &mut [u32], body: &[u32])
-    requires { ⌜ length (now body) ≤ length (now room) ⌝ }
-    ensures { λ _. ⌜ now (room .exit) ≡ onFront (now (room .entry)) (now (body .entry)) ⌝ }
+// What stands before the body that a record is lent, at the front of the room: a comment's first token, or the tokens of any other record,
+// read back. How many there are, none if reading yields no such record or the body's length does not agree.
+fn encode(room: &mut [u32], version: u32, known: Version, instruction: Record, lent: usize) -> usize
+    requires { ⌜ (version ≡ versionToken known) × (mostEncoded ≤ length (now room)) ⌝ }
+    ensures { λ count. ⌜ Encodes known instruction lent count (now (room .exit)) ⌝ }
 {
-    let mut i = 0;
-    while i < body.len() {
-        room[i] = body[i];
-        i += 1;
+    let size = instruction.extent;
+    if instruction.opcode == paper::COMMENT {
+        if lent != size as usize {
+            return 0;
+        }
+        if !is_comment(instruction) {
+            return 0;
+        }
+        room[0] = paper::COMMENT + 0x1_0000 * size;
+        return 1;
     }
+    if lent != 0 {
+        return 0;
+    }
+    let count = put_record(room, known, instruction);
+    if is_yielded(version, &room[..count], instruction) {
+        return count;
+    }
+    0
 }
 
-// A comment at the front of the room: its first token, and its body in the remainder.
-fn put_comment(room: &mut [u32], size: u32, body: &[u32])
-    requires { ⌜ (size ≤ longestComment) × (1 + length (now body) ≤ length (now room)) ⌝ }
-    ensures { λ _. ⌜ now (room .exit) ≡ onFront (now (room .entry)) (commentToken size ∷ now (body .entry)) ⌝ }
+// Some tokens, stored from a place of the buffer on.
+fn copy(buffer: &mut [u32], at: usize, tokens: &[u32])
+    requires { ⌜ at + length (now tokens) ≤ length (now buffer) ⌝ }
+    ensures { λ _. ⌜ now (buffer .exit) ≡ sets (now (buffer .entry)) at (now (tokens .entry)) ⌝ }
 {
-    room[0] = COMMENT + 0x1_0000 * size;
-    copy_body(&mut room[1..], body);
+    let mut i = 0;
+    while i < tokens.len() {
+        let token = tokens[i];
+        buffer[at + i] = token;
+        i += 1;
+    }
 }
 
 fn fits(count: usize, at: usize, room: usize) -> bool
@@ -306,28 +306,16 @@ fn refused(reason: Reason) -> Written
     })
 }
 
-fn write_comment(
-    version: Version,
-    instruction: Record,
-    body: &[u32],
-    buffer: &mut [u32],
-    at: usize,
-) -> Written
-    requires { ⌜ instruction .opcode ≡ commentOpcode ⌝ }
-    ensures { λ r. ⌜ (r ≡ writingIn version instruction (now (body .entry)) (now (buffer .entry)) at) × (now (buffer .exit) ≡ contentIn version instruction (now (body .entry)) (now (buffer .entry)) at) ⌝ }
+// Tokens and those behind them, written at a place of the buffer if they fit.
+fn place(tokens: &[u32], behind: &[u32], buffer: &mut [u32], at: usize) -> Written
+    ensures { λ r. ⌜ (r ≡ room (now (tokens .entry) ++ now (behind .entry)) (now (buffer .entry)) at) × (now (buffer .exit) ≡ contentAfter r (now (tokens .entry) ++ now (behind .entry)) (now (buffer .entry)) at) ⌝ }
 {
-    let size = instruction.extent;
-    if body.len() != size as usize {
-        return refused(Reason::Record);
-    }
-    if !is_comment(instruction) {
-        return refused(Reason::Record);
-    }
-    let count = body.len() + 1;
+    let count = tokens.len() + behind.len();
     if !fits(count, at, buffer.len()) {
         return refused(Reason::Room);
     }
-    put_comment(&mut buffer[at..], size, body);
+    copy(buffer, at, tokens);
+    copy(buffer, at + tokens.len(), behind);
     Written::Wrote(at + count)
 }
 
@@ -342,22 +330,12 @@ fn write_known(
     requires { ⌜ version ≡ versionToken known ⌝ }
     ensures { λ r. ⌜ (r ≡ writingIn known instruction (now (body .entry)) (now (buffer .entry)) at) × (now (buffer .exit) ≡ contentIn known instruction (now (body .entry)) (now (buffer .entry)) at) ⌝ }
 {
-    if instruction.opcode == COMMENT {
-        return write_comment(known, instruction, body, buffer, at);
-    }
-    if body.len() != 0 {
+    let mut tokens = [0u32; MOST_ENCODED];
+    let count = encode(&mut tokens, version, known, instruction, body.len());
+    if count == 0 {
         return refused(Reason::Record);
     }
-    let encoded = read_back(version, known, instruction);
-    if !encoded.yielded {
-        return refused(Reason::Record);
-    }
-    let count = encoded.count;
-    if !fits(count, at, buffer.len()) {
-        return refused(Reason::Room);
-    }
-    put_record(&mut buffer[at..], known, instruction);
-    Written::Wrote(at + count)
+    place(&tokens[..count], body, buffer, at)
 }
 
 // The record, written in the version that this token names into the part of the buffer that starts at a place; a comment with the body that

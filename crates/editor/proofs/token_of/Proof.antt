@@ -7,26 +7,8 @@ use borrow.Author.Needs.{needs}
 use Rattle.editor.proofs.token_of.Statement.{statement}
 use Rattle.editor.proofs.token_of.Tie as tie
 
-mul-result : tie.Need-mul-result
-mul-result c = search needs
-
-shared-slice-read-result : tie.Need-shared-slice-read-result
-shared-slice-read-result c = search needs
-
 returns : tie.Need-returns
 returns c = let g = c .before .before .args in sym (behind-in-run (g .run .now) (g .old .now) (g .j) (g .at) (omega arith))
-
-sub-result : tie.Need-sub-result
-sub-result c = search needs
-
-add-result : tie.Need-add-result
-add-result c = search needs
-
-mul-result-2 : tie.Need-mul-result-2
-mul-result-2 c = search needs
-
-shared-slice-read-result-2 : tie.Need-shared-slice-read-result-2
-shared-slice-read-result-2 c = search needs
 
 returns-2 : tie.Need-returns-2
 returns-2 c =
@@ -38,11 +20,11 @@ pub token-of-spec : {M : Type 1} → statement M
 token-of-spec =
     tie.close
     (tie.spec
-    mul-result
-    shared-slice-read-result
+    (λ c. search needs)
+    (λ c. search needs)
     returns
-    sub-result
-    add-result
-    mul-result-2
-    shared-slice-read-result-2
+    (λ c. search needs)
+    (λ c. search needs)
+    (λ c. search needs)
+    (λ c. search needs)
     returns-2)

@@ -5,21 +5,6 @@ use borrow.Author.Needs.{needs}
 use Rattle.splicer.proofs.put_run.Statement.{statement}
 use Rattle.splicer.proofs.put_run.Tie as tie
 
-add-move-tokens : tie.Need-add-move-tokens
-add-move-tokens c = search needs
-
-sub-move-tokens : tie.Need-sub-move-tokens
-sub-move-tokens c = search needs
-
-move-tokens-requires : tie.Need-move-tokens-requires
-move-tokens-requires c κs = search needs
-
-write-run-requires : tie.Need-write-run-requires
-write-run-requires c κs = search needs
-
-same-length : tie.Need-same-length
-same-length c = search needs
-
 returns : tie.Need-returns
 returns c =
     let g = c .before .before .before .before .before .before .before .before .before .before .args in
@@ -30,9 +15,9 @@ pub put-run-spec : {M : Type 1} → statement M
 put-run-spec =
     tie.close
     (tie.spec
-    add-move-tokens
-    sub-move-tokens
-    move-tokens-requires
-    write-run-requires
-    same-length
+    (λ c. search needs)
+    (λ c. search needs)
+    (λ c κs. search needs)
+    (λ c κs. search needs)
+    (λ c. search needs)
     returns)

@@ -3,18 +3,6 @@ use borrow.Author.Needs.{needs}
 use Rattle.writer.proofs.is_yielded.Statement.{statement}
 use Rattle.writer.proofs.is_yielded.Tie as tie
 
-read-requires : tie.Need-read-requires
-read-requires c κs = search needs
-
-enum-told : tie.Need-enum-told
-enum-told c = search needs
-
-same-record-requires : tie.Need-same-record-requires
-same-record-requires c κs = search needs
-
-enum-told-2 : tie.Need-enum-told-2
-enum-told-2 c = search needs
-
 returns : tie.Need-returns
 returns c = rw (← (told-one _ _ (c .before .before .before .before .read .ensures)), c .before .enum-told .given .1) (c .same-record .ensures)
 
@@ -23,4 +11,4 @@ returns-2 c = rw (← (told-one _ _ (c .before .before .before .read .ensures)),
 
 pub is-yielded-spec : {M : Type 1} → statement M
 is-yielded-spec =
-    tie.close (tie.spec read-requires enum-told same-record-requires enum-told-2 returns returns-2)
+    tie.close (tie.spec (λ c κs. search needs) (λ c. search needs) (λ c κs. search needs) (λ c. search needs) returns returns-2)

@@ -1,88 +1,59 @@
-use Prim.Native.Nat.{_+_, _≤_}
+use Prim.Native.Nat.{_+_, _*_, _/_, _%_, _≤_}
 use native.Mathlib.Omega.{arith}
 use mathlib.Core.Path.{_≡_, refl, ap, _∙_}
-use mathlib.Core.List.{[]}
-use lib.ListN.{length, drop}
-use Rattle.places.specs.Places.{decoded}
-use Rattle.writer.specs.Buffer.{wordsOf, pasted, onFront}
-use Rattle.writer.specs.Row.{orderTokens}
-use Rattle.writer.proofs.Paste.{pasted-front, written-all}
-use Rattle.writer.proofs.Row.{places-step, order-none, at-on, operand-fits, room-length, room-on}
+use lib.ListN.{length, drop, getD}
+use lib.Seq.{length-sets}
+use Rattle.places.specs.Places.{placeBy, decoded}
+use Rattle.records.specs.Record.{noOperand}
+use Rattle.record_tokens.specs.Tokens.{rowTokens}
+use Rattle.writer.specs.Row.{operandCount, mostEncoded}
+use Rattle.writer.proofs.Paste.{Rest, rest-on, rest-none}
+use Rattle.writer.proofs.Row.{places-step, row-step, row-none, operand-few, slot-few, held-few}
 use borrow.Author.Needs.{needs}
 use Rattle.writer.proofs.put_row.Statement.{statement}
 use Rattle.writer.proofs.put_row.Tie as tie
 
 abbrev Inv-loop : tie.InvT-loop
-Inv-loop room₀ places operands left₀ at₀ held₀ room left at held = (left ≤ places)
+Inv-loop room₀ row operands left₀ next₀ held₀ room left next held =
+    (left ≤ row)
     × (length room ≡ length room₀)
-    × (held + length (decoded left) ≤ 5)
-    × (at + length (orderTokens (decoded left) (drop held operands)) ≡ length (orderTokens (decoded places) operands))
-    × (pasted room at (wordsOf (orderTokens (decoded left) (drop held operands))) ≡ onFront room₀ (wordsOf (orderTokens (decoded places) operands)))
+    × (held + length (decoded left) ≤ operandCount)
+    × (next + 2 * length (decoded left) ≤ mostEncoded)
+    × Rest (rowTokens (decoded row) operands (getD operands 5 noOperand)) room₀ 1 (rowTokens (decoded left) (drop held operands) (getD operands 5 noOperand)) next room
 
 abbrev μ-loop : tie.MeasureT-loop
-μ-loop room₀ places operands left₀ at₀ held₀ room left at held = left
+μ-loop room₀ row operands left₀ next₀ held₀ room left next held = left
 
-loop-holds : tie.Need-loop-holds Inv-loop μ-loop
-loop-holds c = let s = c .before in
-    (omega arith, refl, omega (arith, s .pre .few), omega arith, pasted-front (s .args .room .now) (wordsOf (orderTokens (decoded (s .args .places)) (s .args .t3))))
-
-mul-operand : tie.Need-mul-operand Inv-loop μ-loop
-mul-operand c = let l = c .before .loop in omega (arith, places-step (l .left) (omega arith) (c .loop-test .taken) 0 [])
-
-array-copy-out-operand : tie.Need-array-copy-out-operand Inv-loop μ-loop
-array-copy-out-operand c = let l = c .before .loop in omega (arith, places-step (l .left) (omega arith) (c .loop-test .taken) 0 [])
-
-mul-put-operand : tie.Need-mul-put-operand Inv-loop μ-loop
-mul-put-operand c = let l = c .before .before .loop in omega (arith, c .before .before .before .before .pre .fits)
-
-sub-put-operand : tie.Need-sub-put-operand Inv-loop μ-loop
-sub-put-operand c = let l = c .before .before .loop in omega (arith, c .before .before .before .before .pre .fits)
-
-part-put-operand-start : tie.Need-part-put-operand-start Inv-loop μ-loop
-part-put-operand-start c = let l = c .before .before .loop in omega (arith, c .before .before .before .before .pre .fits)
-
-part-put-operand-end : tie.Need-part-put-operand-end Inv-loop μ-loop
-part-put-operand-end c = search needs
-
-put-operand-requires : tie.Need-put-operand-requires Inv-loop μ-loop
-put-operand-requires c κs = let s = c .before .before .before .before .before in
+-- the operand that stands at a place is one of the array's
+slot : (c : tie.After-choose Inv-loop μ-loop) → c .choose .result ≤ 5
+slot c =
     let l = c .before .before .before .loop in
-    operand-fits (l .left) (omega arith) (c .before .before .loop-test .taken) (l .held) (s .args .t3) (l .at) (l .room) (omega (arith, s .pre .fits))
-
-add-at : tie.Need-add-at Inv-loop μ-loop
-add-at c = let s = c .before .before .before .before .before .before .before .before in
-    let l = c .before .before .before .before .before .before .loop in
-    let on = at-on (l .left) (omega arith) (c .before .before .before .before .before .loop-test .taken) (l .held) (s .args .t3) (l .at) (l .room) (omega (arith, s .pre .fits)) in
-    rw (c .before .before .put-operand .ensures .0) (omega (arith, s .pre .fits))
-
-add-held : tie.Need-add-held Inv-loop μ-loop
-add-held c = search needs
-
-loop-less : tie.Need-loop-less Inv-loop μ-loop
-loop-less c = search needs
+    slot-few (c .before .is-predicate .result) (l .held) (c .choose .result) (omega (arith, places-step (l .left) (omega arith) (c .before .before .loop-test .taken))) (c .choose .ensures)
 
 loop-again : tie.Need-loop-again Inv-loop μ-loop
-loop-again c = let s = c .before .before .before .before .before .before .before .before in
-    let l = c .before .before .before .before .before .before .loop in
-    let some = c .before .before .before .before .before .loop-test .taken in
-    let put = c .before .before .put-operand in
-    let inside : l .at + length (orderTokens (decoded (l .left)) (drop (l .held) (s .args .t3))) ≤ length (l .room) = omega (arith, s .pre .fits) in
-    let on = at-on (l .left) (omega arith) some (l .held) (s .args .t3) (l .at) (l .room) inside in (
+loop-again c =
+    let g = c .before .before .before .before .before .before .before .before .before .before .before .args in
+    let l = c .before .before .before .before .before .before .before .before .before .loop in
+    let some = c .before .before .before .before .before .before .before .before .loop-test .taken in
+    let predicate = c .before .before .before .before .before .before .before .is-predicate in
+    let put = c .before .before .before .put-operand in
+    let places = places-step (l .left) (omega arith) some in
+    let few = operand-few (placeBy (l .left % 128)) (getD (g .t3) (c .before .before .before .before .before .before .choose .result) noOperand) in
+    let step = row-step (l .left) (omega arith) some (l .held) (g .t3) (predicate .result) (predicate .ensures) in (
       omega arith,
-      room-length (l .left) (omega arith) some (l .held) (s .args .t3) (l .at) (l .room) inside (put .last .0) (put .result) (put .ensures .0) (put .ensures .1) ∙ l .inv .1,
-      omega (arith, places-step (l .left) (omega arith) some 0 []),
-      rw (put .ensures .0) (on ∙ l .inv .3),
-      room-on (l .left) (omega arith) some (l .held) (s .args .t3) (l .at) (l .room) inside (put .last .0) (put .result) (put .ensures .0) (put .ensures .1) ∙ l .inv .4,
+      ap length (put .ensures .after-is) ∙ simp length-sets (l .inv .1),
+      held-few (predicate .result) (l .held) (c .choose2 .result) (length (decoded (l .left / 128))) (omega arith) (c .choose2 .ensures),
+      omega (arith, put .ensures .next-is),
+      rw (c .choose2 .ensures)
+          (rest-on (rowTokens (decoded (g .row)) (g .t3) (getD (g .t3) 5 noOperand)) (g .room .now) 1 (l .next) (l .room) _ _ (put .result) (put .last .0)
+          (rw step at (l .inv .4)) (rw (c .before .before .before .before .before .before .choose .ensures) at (put .ensures))),
     )
 
-same-length : tie.Need-same-length Inv-loop μ-loop
-same-length c = c .before .loop .inv .1
-
 returns : tie.Need-returns Inv-loop μ-loop
-returns c = let s = c .before .before .before in
+returns c =
+    let g = c .before .before .before .args in
     let l = c .before .loop in
-    let none = order-none (l .left) (drop (l .held) (s .args .t3)) (c .loop-test .left) in
-    (omega (arith, ap length none, l .inv .3), written-all (l .room) (l .at) _ _ none (l .inv .4))
+    (rest-none _ (g .room .now) 1 (l .next) (l .room) _ (row-none (l .left) (drop (l .held) (g .t3)) (getD (g .t3) 5 noOperand) (c .loop-test .left)) (l .inv .4), omega arith)
 
 pub put-row-spec : {M : Type 1} → statement M
 put-row-spec =
@@ -90,17 +61,16 @@ put-row-spec =
     (tie.spec
     Inv-loop
     μ-loop
-    loop-holds
-    mul-operand
-    array-copy-out-operand
-    mul-put-operand
-    sub-put-operand
-    part-put-operand-start
-    part-put-operand-end
-    put-operand-requires
-    add-at
-    add-held
-    loop-less
+    (λ c. (omega arith, refl, omega arith, omega arith, record { ends = refl; leaves = refl }))
+    (λ c κs. search needs)
+    (λ c. search needs)
+    (λ c κs. search needs)
+    (λ c. omega (arith, slot c))
+    (λ c. omega (arith, slot c))
+    (λ c κs. let l = c .before .before .before .before .before .loop in omega (arith, places-step (l .left) (omega arith) (c .before .before .before .before .loop-test .taken)))
+    (λ c. search needs)
+    (λ c κs. search needs)
+    (λ c. search needs)
     loop-again
-    same-length
+    (λ c. c .before .loop .inv .1)
     returns)

@@ -4,6 +4,7 @@ use mathlib.Core.Path.{_≡_, refl, sym, _∙_}
 use mathlib.Core.Bool.{true}
 use lib.ListN.{length, drop, length-map}
 use borrow.Author.Tests.{not-true, not-false}
+use Rattle.writer.specs.Row.{operandCount}
 use Rattle.writer.specs.Same.{sameFields, sameOperands, sameRecord}
 use Rattle.writer.proofs.Same.{same-step, same-done}
 use borrow.Author.Needs.{needs}
@@ -11,19 +12,16 @@ use Rattle.writer.proofs.same_record.Statement.{statement}
 use Rattle.writer.proofs.same_record.Tie as tie
 
 abbrev Inv-loop : tie.InvT-loop
-Inv-loop a b i₀ i = (i ≤ 6) × (sameFields a b ≡ true) × (sameOperands (drop i (a .operands)) (drop i (b .operands)) ≡ sameOperands (a .operands) (b .operands))
+Inv-loop a b i₀ i = (i ≤ operandCount) × (sameFields a b ≡ true) × (sameOperands (drop i (a .operands)) (drop i (b .operands)) ≡ sameOperands (a .operands) (b .operands))
 
 abbrev μ-loop : tie.MeasureT-loop
-μ-loop a b i₀ i = 6 - i
+μ-loop a b i₀ i = operandCount - i
 
-six1 : (c : tie.Start Inv-loop μ-loop) → length (c .args .t1 .operands) ≡ 6
+six1 : (c : tie.Start Inv-loop μ-loop) → length (c .args .t1 .operands) ≡ operandCount
 six1 c = simp length-map at (c .good .0 .1 .1 .1 .1 .1 .1 .0 .1 .0 .1)
 
-six2 : (c : tie.Start Inv-loop μ-loop) → length (c .args .t2 .operands) ≡ 6
+six2 : (c : tie.Start Inv-loop μ-loop) → length (c .args .t2 .operands) ≡ operandCount
 six2 c = simp length-map at (c .good .1 .0 .1 .1 .1 .1 .1 .1 .0 .1 .0 .1)
-
-same-fields-requires : tie.Need-same-fields-requires Inv-loop μ-loop
-same-fields-requires c κs = search needs
 
 returns : tie.Need-returns Inv-loop μ-loop
 unfolding sameRecord
@@ -32,33 +30,12 @@ returns c = rw (sym (c .before .same-fields .ensures) ∙ not-true (c .before .s
 loop-holds : tie.Need-loop-holds Inv-loop μ-loop
 loop-holds c = (omega arith, sym (c .before .same-fields .ensures) ∙ not-false (c .before .same-fields .result) (c .if1 .left), refl)
 
-mul-x : tie.Need-mul-x Inv-loop μ-loop
-mul-x c = search needs
-
-element-copy-out-x : tie.Need-element-copy-out-x Inv-loop μ-loop
-element-copy-out-x c = search needs
-
-mul-y : tie.Need-mul-y Inv-loop μ-loop
-mul-y c = search needs
-
-element-copy-out-y : tie.Need-element-copy-out-y Inv-loop μ-loop
-element-copy-out-y c = search needs
-
-same-operand-requires : tie.Need-same-operand-requires Inv-loop μ-loop
-same-operand-requires c κs = search needs
-
 returns-2 : tie.Need-returns-2 Inv-loop μ-loop
 unfolding sameRecord
 returns-2 c = let s = c .before .before .before .before .before .before .before .before in
     let l = c .before .before .before .before .before .loop in
     let step = same-step (l .i) (s .args .t1 .operands) (s .args .t2 .operands) (omega (arith, six1 s)) (omega (arith, six2 s)) in
     rw (l .inv .1, ← l .inv .2, step, sym (c .before .same-operand .ensures) ∙ not-true (c .before .same-operand .result) (c .if2 .taken))
-
-add-i : tie.Need-add-i Inv-loop μ-loop
-add-i c = search needs
-
-loop-less : tie.Need-loop-less Inv-loop μ-loop
-loop-less c = search needs
 
 loop-again : tie.Need-loop-again Inv-loop μ-loop
 loop-again c = let s = c .before .before .before .before .before .before .before .before in
@@ -78,16 +55,16 @@ same-record-spec =
     (tie.spec
     Inv-loop
     μ-loop
-    same-fields-requires
+    (λ c κs. search needs)
     returns
     loop-holds
-    mul-x
-    element-copy-out-x
-    mul-y
-    element-copy-out-y
-    same-operand-requires
+    (λ c. search needs)
+    (λ c. search needs)
+    (λ c. search needs)
+    (λ c. search needs)
+    (λ c κs. search needs)
     returns-2
-    add-i
-    loop-less
+    (λ c. search needs)
+    (λ c. search needs)
     loop-again
     returns-3)

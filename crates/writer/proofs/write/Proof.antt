@@ -7,24 +7,9 @@ use borrow.Author.Needs.{needs}
 use Rattle.writer.proofs.write.Statement.{statement}
 use Rattle.writer.proofs.write.Tie as tie
 
-version-of-requires : tie.Need-version-of-requires
-version-of-requires c κs = search needs
-
-enum-known-named : tie.Need-enum-known-named
-enum-known-named c = search needs
-
 write-known-requires : tie.Need-write-known-requires
 write-known-requires c κs = let s = c .before .before .before .before .before .before .before in
     version-named (s .args .version) _ (sym (same-named _ _ (c .before .before .before .before .version-of .ensures)) ∙ c .before .before .named .given .1)
-
-enum-told : tie.Need-enum-told
-enum-told c = search needs
-
-refused-requires : tie.Need-refused-requires
-refused-requires c κs = search needs
-
-same-length : tie.Need-same-length
-same-length c = search needs
 
 returns : tie.Need-returns
 returns c =
@@ -43,11 +28,11 @@ pub write-spec : {M : Type 1} → statement M
 write-spec =
     tie.close
     (tie.spec
-    version-of-requires
-    enum-known-named
+    (λ c κs. search needs)
+    (λ c. search needs)
     write-known-requires
-    enum-told
-    refused-requires
-    same-length
+    (λ c. search needs)
+    (λ c κs. search needs)
+    (λ c. search needs)
     returns
     returns-2)

@@ -1,0 +1,2 @@
+-- Elements stored one after the other in a list.
+pub mod Stores
