@@ -5,7 +5,7 @@ use mathlib.Core.Bool.{Bool, true, false, not, _&&_}
 use mathlib.Core.List.{List, [], _∷_}
 use native.Mathlib.Omega.{arith}
 use lib.Dec.{eqb}
-use borrow.Author.Tests.{eqb-true}
+use borrow.Author.Tests.{eqb-true, not-true}
 use Rattle.paper.specs.Notation.{pick, among}
 use Rattle.paper.specs.Blocks.{Classed, classes, classAmong, classOf}
 use Rattle.paper.specs.Walk.{counts}
@@ -35,10 +35,6 @@ module _ (rule : Class → Bool) where
   pub class-has : every classes ≡ true → (opcode : ℕ) → rule (classOf opcode) ≡ true
   unfolding classOf
   class-has t opcode = among-rows classes t opcode
-
-not-true : (b : Bool) → not b ≡ true → b ≡ false
-not-true true t = never t
-not-true false t = refl
 
 -- no opcode of the table is END's
 pub class-no-end : (opcode : ℕ) → endsStream (classOf opcode) ≡ false

@@ -132,11 +132,7 @@ pub fn layout_then_type(laid: bool, typed: bool) -> u32
     ensures { λ r. ⌜ r ≡ toldToken (layoutThenType laid typed) ⌝ }
 {
     if laid {
-        if typed {
-            0
-        } else {
-            paper::REGISTER
-        }
+        if typed { 0 } else { paper::REGISTER }
     } else {
         paper::OPERAND
     }

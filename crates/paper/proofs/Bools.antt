@@ -1,7 +1,7 @@
 -- Small laws on Bools, and contradictions.
 use Prim.Native.Nat.{ℕ}
 use mathlib.Core.Path.{_≡_, refl}
-use mathlib.Core.Bool.{Bool, true, false, not, _&&_, _||_}
+use mathlib.Core.Bool.{Bool, true, false, _&&_, _||_}
 use native.Mathlib.Omega.{arith}
 
 -- two answers that differ are not one: `apart (cc)`
@@ -30,11 +30,3 @@ and-false false = refl
 pub or-false : (a : Bool) → a || false ≡ a
 or-false true = refl
 or-false false = refl
-
-pub not-true : (a : Bool) → not a ≡ true → a ≡ false
-not-true true t = apart (cc)
-not-true false t = refl
-
-pub not-false : (a : Bool) → not a ≡ false → a ≡ true
-not-false true t = refl
-not-false false t = apart (cc)

@@ -1,7 +1,7 @@
 -- An instruction and its own tokens: it takes at least one, only tokens that are there, and its answer depends on no other.
 use mathlib.Core.Path.{_≡_, refl, ap, sym, _∙_}
 use mathlib.Core.Bool.{Bool, true, false}
-use mathlib.Core.List.{List, [], _∷_, _++_}
+use mathlib.Core.List.{List, [], _∷_, _++_, append-nil}
 use Prim.Native.Nat.{ℕ, suc, _+_, _≤_}
 use native.Mathlib.Omega.{arith}
 use lib.Dec.{leb}
@@ -94,3 +94,6 @@ module _ (size : ℕ) (class : Class) where
   good-alone v (first ∷ rest) other e =
       let g = good-claim v first rest e in
       ap (λ (n : ℕ). judged v (first ∷ (take n rest ++ other))) (sym (g .claims)) ∙ own-tokens v first rest other (rw (g .claims) (g .there)) ∙ e
+
+  pub good-own : (v : Version) (tokens : List ℕ) → judged v tokens ≡ Good size class → judged v (take (suc size) tokens) ≡ Good size class
+  good-own v tokens e = rw (append-nil (take (suc size) tokens)) at (good-alone v tokens [] e)

@@ -7,19 +7,18 @@ use native.Mathlib.Omega.{arith}
 use lib.Dec.{eqb}
 use lib.ListN.{length, take, drop, getD, take-append-drop}
 use lib.Seq.{getD-drop}
-use borrow.Author.Tests.{eqb-true}
+use borrow.Author.Tests.{eqb-true, not-true}
 use Rattle.paper.specs.Notation.{pick, bits, bit}
 use Rattle.paper.specs.Versions.{isPixel}
 use Rattle.paper.specs.OperandTokens.{numberField, typeOf, modifierOf, bothLaid, relativeLaid, destinationLaid, sourceLaid, laid, bringsRelative}
 use Rattle.paper.specs.declared.Version.{Version}
-use Rattle.paper.proofs.Bools.{both-left, both-right}
+use Rattle.paper.proofs.Bools.{both-left, both-right, or-false}
 use Rattle.paper.specs.Places.{Place, relative, isRaw, isDestination, isPredicate}
 use Rattle.opcodes.proofs.Shapes.{unpredicated}
 use Rattle.records.proofs.PlaceKinds.{laid-by, brings-by}
 use Rattle.records.specs.declared.Operand.{Operand}
 use Rattle.records.specs.Record.{maskOf, resultOf, swizzleOf, noOperand, destinationOperand, sourceOperand, operandOf, widthAt, operandAt, inOrder, predicateOr, padded}
 use Rattle.records.specs.ByClass.{ordered}
-use Rattle.records.proofs.Declared.{or-false}
 use Rattle.records.proofs.Filled.{width-some}
 use Rattle.records.proofs.Passed.{Passed, AllPassed, none, more}
 use Rattle.record_tokens.specs.Tokens.{Words, tokenOf, operandToken, relativeTokenOf, operandTokens, rowTokens}
@@ -54,7 +53,7 @@ relative-back v t word l =
     let both = both-left (bothLaid t) _ l in
     let rest = both-right (bothLaid t) _ l in
     let no-modifier = eqb-true (modifierOf t) 0 (both-left (eqb (modifierOf t) 0) (relativeLaid v relative t) rest) in
-    let no-relative = eqb-true (bit 13 t) 0 (or-false (eqb (bit 13 t) 0) (both-right (eqb (modifierOf t) 0) (relativeLaid v relative t) rest)) in
+    let no-relative = eqb-true (bit 13 t) 0 (sym (or-false (eqb (bit 13 t) 0)) ∙ both-right (eqb (modifierOf t) 0) (relativeLaid v relative t) rest) in
     let middle : swizzleOf t ≡ bits 27 16 t = omega (arith, source-middle t) in
     ap (λ r. tokenOf (numberField t) (typeOf t) r (swizzleOf t)) (sym no-relative)
     ∙ ap (tokenOf (numberField t) (typeOf t) (bit 13 t)) middle
@@ -131,10 +130,6 @@ words-take (suc n) (t ∷ rest) words (suc k) = words-take n rest (λ j. words (
 abbrev pub single : List Place → Bool
 single [] = true
 single (place ∷ places) = pick (isPredicate place) (unpredicated places) (single places)
-
-pub not-true : (b : Bool) → not b ≡ true → b ≡ false
-not-true false h = refl
-not-true true h = sym h
 
 pub unpredicated-single : (places : List Place) → unpredicated places ≡ true → single places ≡ true
 unpredicated-single [] h = refl

@@ -14,13 +14,14 @@ use Rattle.paper.specs.declared.Class.the-variants.{One}
 use Rattle.paper.specs.declared.Single.the-variants.{Comment}
 use Rattle.paper.specs.declared.Judged.the-variants.{Good as Lawful}
 use Rattle.records.specs.Record.{commentRecord, recordOf}
-use Rattle.records.proofs.OwnRecord.{record-own, judged-own, comment-record}
+use Rattle.records.proofs.OwnRecord.{record-own}
+use Rattle.paper.proofs.OwnTokens.{good-own}
 use Rattle.record_tokens.specs.Tokens.{Words, commentToken, tokensOf, commentBody}
 use Rattle.record_tokens.proofs.WrittenBack.{written-back}
 
 module _ (v : Version) (tokens : List ℕ) {size : ℕ} {class : Class} (words : Words tokens) (j : judged v tokens ≡ Lawful size class) where
   pub judged-back : judged v (tokensOf v (recordOf v tokens) (commentBody v tokens)) ≡ Lawful size class
-  judged-back = rw (written-back v tokens words j) (judged-own v tokens j)
+  judged-back = rw (written-back v tokens words j) (good-own size class v tokens j)
 
   pub record-back : recordOf v (tokensOf v (recordOf v tokens) (commentBody v tokens)) ≡ recordOf v tokens
   record-back = rw (written-back v tokens words j) (record-own v tokens j)
@@ -55,4 +56,5 @@ module _ (v : Version) (n : ℕ) (fits : n < 2 ^ 15) where
   comment-judged body h = rw (comment-head, le-leb n (length body) (omega arith))
 
   pub comment-read : (body : List ℕ) → recordOf v (commentToken n ∷ body) ≡ commentRecord n
-  comment-read body = comment-record v (commentToken n) n body comment-head
+  unfolding recordOf
+  comment-read body = rw (comment-head, comment-length)

@@ -5,7 +5,7 @@ use lib.Dec.{eqb}
 use lib.ListN.{length, take, drop, getD}
 use Rattle.paper.specs.Notation.{pick}
 use Rattle.paper.specs.InstructionToken.{commentOpcode, endOpcode, endToken, withPredicate}
-use Rattle.paper.specs.Instruction.{Head, broken, end, comment, dcl, operation, tokenHead}
+use Rattle.paper.specs.Instruction.{Head, broken, end, comment, operation, tokenHead}
 use Rattle.paper.specs.declared.Version.{Version}
 use Rattle.paper.specs.Places.{Entry, absent, listed, entryOf, Place, isRaw, isPredicate}
 use Rattle.records.specs.declared.Operand.{Operand}
@@ -75,7 +75,6 @@ abbrev pub bodyOn : Head → List ℕ → List ℕ
 bodyOn (broken reason) rest = []
 bodyOn end rest = []
 bodyOn (comment n) rest = take n rest
-bodyOn (dcl size) rest = []
 bodyOn (operation places size) rest = []
 
 unfoldable pub commentBody : Version → List ℕ → List ℕ

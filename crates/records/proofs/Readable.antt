@@ -6,6 +6,7 @@ use Prim.Native.Nat.{ℕ}
 use native.Mathlib.Omega.{arith}
 use lib.Dec.{eqb}
 use lib.ListN.{take}
+use borrow.Author.Tests.{not-true}
 use Rattle.paper.specs.InstructionToken.{opcodeOf, isPredicated, withPredicate}
 use Rattle.paper.specs.Blocks.{classOf, classes}
 use Rattle.paper.specs.Instruction.{claimed, Head, tokenHead, claim, onClaimed, judged}
@@ -15,7 +16,7 @@ use Rattle.paper.specs.declared.Closer.the-variants.{End}
 use Rattle.paper.specs.declared.Class.{Class}
 use Rattle.paper.specs.declared.Class.the-variants.{One, Closes}
 use Rattle.paper.specs.declared.Judged.the-variants.{Good}
-use Rattle.paper.proofs.Bools.{apart, not-true}
+use Rattle.paper.proofs.Bools.{apart}
 use Rattle.paper.proofs.FirstToken.{Says, is-broken, is-comment, is-end, is-listed, says}
 use Rattle.paper.proofs.OwnTokens.{operands-good, good-claim}
 use Rattle.blocks.proofs.Classes.{class-has}

@@ -8,26 +8,26 @@ use lib.Dec.{eqb}
 use lib.ListN.{length}
 use borrow.Author.Tests.{eq-eqb, ne-eqb, eqb-true}
 use Rattle.paper.specs.Notation.{bit, bits}
-use Rattle.paper.specs.Versions.{isThird}
-use Rattle.paper.specs.InstructionToken.{opcodeOf, controlsOf, isPredicated, controlsLaid, mayBePredicated, withPredicate, endOpcode, endToken}
+use Rattle.paper.specs.Versions.{hasPredicates}
+use Rattle.paper.specs.InstructionToken.{opcodeOf, controlsOf, isPredicated, controlsLaid, bitsLaid, mayBePredicated, withPredicate, endOpcode, endToken}
 use Rattle.paper.specs.Places.{Entry, absent, listed, entryOf, Place}
 use Rattle.paper.specs.declared.Version.{Version}
-use Rattle.paper.proofs.Bools.{both-right}
+use Rattle.paper.proofs.Bools.{apart, never, both-right}
+use Rattle.paper.proofs.FirstToken.{Other}
 use Rattle.places.specs.Places.{decoded}
 use Rattle.places.proofs.Decoding.{decoded-zero, without-predicate, predicated-length}
 use Rattle.opcodes.specs.Shape.{shapeOf}
 use Rattle.opcodes.proofs.Shapes.{shape-absent, shape-places, shape-step, few, decoded-digits, decoded-predicated}
-use Rattle.instruction_token.specs.Encoded.{placesBy}
+use Rattle.instruction_token.specs.ByShape.{placesBy}
 use Rattle.records.specs.declared.Operand.{Operand}
 use Rattle.records.specs.declared.Record.{Record}
 use Rattle.records.specs.Record.{instructionRecord}
-use Rattle.records.proofs.Heads.{IsListed}
 use Rattle.record_tokens.specs.Tokens.{tokensOf}
 use Rattle.writer.specs.Row.{operandCount, rowNumber, rowOf, encodedBy, encodedTokens}
 
 -- what may be predicated has an operand
 some-place : (v : Version) (opcode : ℕ) (places : List Place) → mayBePredicated v opcode places ≡ true → length places ≡ 0 → ⊥
-some-place v opcode [] may z = let no = both-right (isThird v) false may in let z : _≡_ {A = ℕ} 0 1 = cc in omega arith
+some-place v opcode [] may z = let no = both-right (hasPredicates v) false may in never (sym no)
 some-place v opcode (place ∷ places) may z = omega arith
 
 module _ (v : Version) (opcode : ℕ) where
@@ -42,7 +42,7 @@ module _ (v : Version) (opcode : ℕ) where
     few-by : (marked may : Bool) → mayBePredicated v opcode places ≡ may → length (decoded (rowNumber (shapeOf v opcode) marked)) ≤ operandCount
     unfolding rowNumber
     few-by false may m =
-        rw (row-listed false (λ no. let z : _≡_ {A = ℕ} 0 1 = cc in absurd (omega arith)), without-predicate places) (omega (arith, few v opcode places e))
+        rw (row-listed false (λ no. apart (cc)), without-predicate places) (omega (arith, few v opcode places e))
     few-by true true m = rw (row-listed true (λ is. m), predicated-length places) (omega (arith, few v opcode places e))
     few-by true false m = rw (shape-step v opcode places e, m, decoded-zero) (omega arith)
 
@@ -67,14 +67,21 @@ module _ (v : Version) (r : Record) where
 may-be : (zeros controls may : Bool) (mark : ℕ) → (zeros && (controls && (eqb mark 0 || may))) ≡ true → eqb mark 1 ≡ true → may ≡ true
 may-be zeros controls may mark laid is = rw (eqb-true mark 1 is) at (both-right controls _ (both-right zeros _ laid))
 
--- a record that was read from an instruction of the table is encoded by its own tokens
+-- a token of an instruction of the table, whose bits are laid out
+pub record IsListed (v : Version) (token : ℕ) : Type 0 where
+  pub places : List Place
+  pub other : Other token
+  pub entry : entryOf v (opcodeOf token) ≡ listed places
+  pub laid : bitsLaid v token places ≡ true
+
+-- a record that was read from such an instruction is encoded by its own tokens
 pub listed-encoded : (v : Version) (first : ℕ) (operands : List Operand) → IsListed v first →
     encodedTokens v (instructionRecord first operands) ≡ tokensOf v (instructionRecord first operands) []
 unfolding encodedTokens tokensOf
 listed-encoded v first operands l =
     rw (
-      l .no-comment,
-      l .no-end,
+      l .other .no-comment,
+      l .other .no-end,
       l .entry,
       row-listed v (opcodeOf first) (l .places) (l .entry) (isPredicated first)
           (may-be (eqb (bits 31 29 first) 0) (controlsLaid (opcodeOf first) (controlsOf first)) (mayBePredicated v (opcodeOf first) (l .places)) (bit 28 first) (l .laid)),

@@ -1,5 +1,5 @@
 -- What a reading that gives a record says of the tokens: they are an instruction, which alone is read so too.
-use mathlib.Core.Path.{_≡_, refl, ap, _∙_}
+use mathlib.Core.Path.{_≡_, refl, ap, _∙_, sym}
 use mathlib.Core.Bool.{Bool, true, false}
 use mathlib.Core.List.{List, [], _∷_}
 use Prim.Native.Nat.{ℕ, suc, _+_, _≤_}
@@ -11,7 +11,7 @@ use borrow.Author.Tests.{leb-true, le-leb, lt-ltb}
 use Rattle.paper.specs.Notation.{pick}
 use Rattle.paper.specs.Versions.{versionToken}
 use Rattle.paper.specs.InstructionToken.{opcodeOf, commentOpcode}
-use Rattle.paper.specs.Instruction.{Head, broken, end, comment, dcl, operation, tokenHead, byHead, judged}
+use Rattle.paper.specs.Instruction.{Head, tokenHead, claim, onClaimed, judged}
 use Rattle.paper.specs.Blocks.{classOf}
 use Rattle.paper.specs.Stream.{mostTokens}
 use Rattle.paper.specs.declared.Version.{Version}
@@ -23,12 +23,13 @@ use Rattle.paper.specs.declared.Single.the-variants.{Comment}
 use Rattle.paper.specs.declared.Judged.{Judged}
 use Rattle.paper.specs.declared.Judged.the-variants.{Good as Lawful, Refused as Unlawful}
 use Rattle.paper.proofs.VersionTokens.{named-back}
-use Rattle.paper.proofs.OwnTokens.{within-good, good-within}
+use Rattle.paper.proofs.Bools.{apart}
+use Rattle.paper.proofs.OwnTokens.{good-claim, good-within, good-own}
+use Rattle.paper.proofs.FirstToken.{Says, is-broken, is-comment, is-end, is-listed, says}
 use Rattle.records.specs.declared.Operand.{Operand}
 use Rattle.records.specs.declared.Record.{Record}
 use Rattle.records.specs.Record.{endRecord, commentRecord, instructionRecord, recordOn, recordOf}
-use Rattle.records.proofs.Heads.{IsListed, is-comment, is-dcl, is-operation}
-use Rattle.records.proofs.OwnRecord.{judged-own, record-own}
+use Rattle.records.proofs.OwnRecord.{record-own}
 use Rattle.reader.specs.declared.Answer.the-variants.{Got, Refused}
 use Rattle.reader.specs.declared.Reading.{Reading}
 use Rattle.reader.specs.Reading.{unread, got, readJudged, readingAt, reading}
@@ -36,7 +37,7 @@ use Rattle.record_tokens.specs.Tokens.{Words, tokensOf, bodyOn, commentBody}
 use Rattle.record_tokens.proofs.Operands.{words-drop, words-take}
 use Rattle.writer.specs.Writing.{bodyLength}
 use Rattle.writer.specs.Row.{encodedTokens}
-use Rattle.writer.proofs.Listed.{listed-encoded}
+use Rattle.writer.proofs.Listed.{IsListed, listed-encoded}
 
 -- an instruction alone, with this record
 pub record Own (v : Version) (r : Record) : Type 0 where
@@ -51,7 +52,7 @@ pub record Own (v : Version) (r : Record) : Type 0 where
 own-tokens : (v : Version) (r : Record) (size : ℕ) (class : Class) (tokens : List ℕ) → judged v tokens ≡ Lawful size class → recordOf v tokens ≡ r → Words tokens →
     length tokens ≤ mostTokens → Own v r
 unfolding judged
-own-tokens v r size class [] j is words short = let z : _≡_ {A = ℕ} 0 1 = cc in absurd (omega arith)
+own-tokens v r size class [] j is words short = apart (cc)
 own-tokens v r size class (first ∷ rest) j is words short =
     let inside = good-within size class v (first ∷ rest) j in
     let long : length (take size rest) ≡ size = length-take-le size rest (omega arith) in
@@ -61,14 +62,14 @@ own-tokens v r size class (first ∷ rest) j is words short =
       class = class;
       are-words = words-take (suc size) (first ∷ rest) words;
       few = omega arith;
-      good = rw long (judged-own v (first ∷ rest) j);
+      good = good-own size class v (first ∷ rest) j ∙ ap (λ n. Lawful n class) (sym long);
       record-is = record-own v (first ∷ rest) j ∙ is;
     }
 
 never-got : (why : Refusal) (reading : Reading) (next : ℕ) (r : Record) {P : Type 0} → reading .answer ≡ Refused why → reading ≡ got next r → P
 never-got why reading next r a e =
     let answers : reading .answer ≡ Got next = ap (λ (x : Reading). x .answer) e in
-    let z : _≡_ {A = ℕ} 0 1 = cc in absurd (omega arith)
+    apart (cc)
 
 -- what a reading gives is an instruction's
 module _ (v : Version) (tokens : List ℕ) (at next : ℕ) (r : Record) (words : Words tokens) where
@@ -101,39 +102,40 @@ pub data Lawfully (v : Version) (first : ℕ) (rest : List ℕ) : Record → Lis
   a-comment : {n : ℕ} → n ≤ length rest → Lawfully v first rest (commentRecord n) (take n rest)
   an-entry : (operands : List Operand) → IsListed v first → Lawfully v first rest (instructionRecord first operands) []
 
-module _ (v : Version) (first : ℕ) (rest : List ℕ) {size : ℕ} {class : Class} where
-  lawfully-by : (h : Head) (c : Class) → tokenHead v first ≡ h → byHead v h c rest ≡ Lawful size class → Lawfully v first rest (recordOn h first rest) (bodyOn h rest)
-  lawfully-by (broken reason) c e j = let z : _≡_ {A = ℕ} 0 1 = cc in absurd (omega arith)
-  lawfully-by end c e j = an-end
-  lawfully-by (comment n) c e j =
-      rw (is-comment v first n e .stated) (a-comment (within-good size class n rest (Lawful n (One Comment)) j .0))
-  lawfully-by (dcl n) c e j = an-entry _ (is-dcl v first n e .found)
-  lawfully-by (operation row n) c e j = an-entry _ (is-operation v first row n e .found)
+module _ (v : Version) (first : ℕ) (rest : List ℕ) (size : ℕ) (class : Class) where
+  lawfully-by : (h : Head) → Says v first h → claim h ≤ length rest → (behind : List ℕ) → onClaimed v h (opcodeOf first) behind ≡ Lawful size class →
+      Lawfully v first rest (recordOn h first rest) (bodyOn h rest)
+  lawfully-by h (is-broken b) there behind j = apart (cc)
+  lawfully-by h (is-end n) there behind j = an-end
+  lawfully-by h (is-comment o l) there behind j = a-comment there
+  lawfully-by h (is-listed {places} o e l) there behind j = an-entry _ (record { places = places; other = o; entry = e; laid = l })
 
   pub lawfully : judged v (first ∷ rest) ≡ Lawful size class → Lawfully v first rest (recordOf v (first ∷ rest)) (commentBody v (first ∷ rest))
-  unfolding judged recordOf commentBody
-  lawfully j = lawfully-by (tokenHead v first) (classOf (opcodeOf first)) refl j
+  unfolding recordOf commentBody
+  lawfully j =
+      let g = good-claim size class v first rest j in
+      lawfully-by (tokenHead v first) (says v first) (rw (g .claims) (g .there)) (take size rest) (g .good)
 
 -- only a comment has a body, and its record has nothing but its length
 module _ (v : Version) (first : ℕ) (rest : List ℕ) where
   pub bodiless : {r : Record} {body : List ℕ} → Lawfully v first rest r body → eqb (r .opcode) commentOpcode ≡ false → body ≡ []
   bodiless an-end n = refl
-  bodiless (a-comment h) n = let z : _≡_ {A = ℕ} 0 1 = cc in absurd (omega arith)
+  bodiless (a-comment h) n = apart (cc)
   bodiless (an-entry operands l) n = refl
 
   pub comment-only : {r : Record} {body : List ℕ} → Lawfully v first rest r body → eqb (r .opcode) commentOpcode ≡ true →
       (r ≡ commentRecord (r .extent)) × (r .extent ≤ length rest)
-  comment-only an-end o = let z : _≡_ {A = ℕ} 0 1 = cc in absurd (omega arith)
+  comment-only an-end o = apart (cc)
   comment-only (a-comment h) o = (refl, h)
-  comment-only (an-entry operands l) o = let no = l .no-comment in let z : _≡_ {A = ℕ} 0 1 = cc in absurd (omega arith)
+  comment-only (an-entry operands l) o = let no = l .other .no-comment in apart (cc)
 
   pub body-agrees : {r : Record} {body : List ℕ} → Lawfully v first rest r body → length body ≡ bodyLength r
   body-agrees an-end = refl
   body-agrees (a-comment {n} h) = length-take-le n rest h
-  body-agrees (an-entry operands l) = rw (l .no-comment)
+  body-agrees (an-entry operands l) = rw (l .other .no-comment)
 
   pub encoded-own : {r : Record} {body : List ℕ} → Lawfully v first rest r body → eqb (r .opcode) commentOpcode ≡ false → encodedTokens v r ≡ tokensOf v r []
   unfolding encodedTokens tokensOf
   encoded-own an-end n = refl
-  encoded-own (a-comment h) n = let z : _≡_ {A = ℕ} 0 1 = cc in absurd (omega arith)
+  encoded-own (a-comment h) n = apart (cc)
   encoded-own (an-entry operands l) n = listed-encoded v first operands l

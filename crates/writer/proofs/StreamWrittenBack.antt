@@ -49,7 +49,7 @@ module _ (v : Version) (first : ℕ) (rest : List ℕ) {class : Class} (words : 
       Writes (versionToken v) (recordOf v (first ∷ rest)) (commentBody v (first ∷ rest)) buffer at (toldWriting (Wrote (at + suc (length rest)))) (pasted buffer at (first ∷ rest))
   chunk-written buffer at h =
       let own : Writes (versionToken v) (recordOf v (first ∷ rest)) (commentBody v (first ∷ rest)) buffer at _ _ =
-      written (named-back v) (record { yielded = chunk-yielded; agrees = body-agrees v first rest (lawfully v first rest alone) }) (rw chunk-back h) in
+      written (named-back v) (record { yielded = chunk-yielded; agrees = body-agrees v first rest (lawfully v first rest (length rest) class alone) }) (rw chunk-back h) in
       rw chunk-back at own
 
 words-front : (a b : List ℕ) → Words (a ++ b) → Words a

@@ -72,7 +72,7 @@ given reading r h = given-by (reading .answer) (reading .instruction) r h
 -- a record that is an instruction's: its tokens are the instruction's own
 module _ (v : Version) (r : Record) (o : Own v r) where
   laid : Lawfully v (o .first) (o .rest) r (commentBody v (o .first ∷ o .rest))
-  laid = rw (o .record-is) at (lawfully v (o .first) (o .rest) (o .good))
+  laid = rw (o .record-is) at (lawfully v (o .first) (o .rest) (length (o .rest)) (o .class) (o .good))
 
   module _ (n : eqb (r .opcode) commentOpcode ≡ false) where
     pub own-is : tokensOf v r [] ≡ o .first ∷ o .rest

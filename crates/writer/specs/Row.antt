@@ -10,8 +10,8 @@ use Rattle.paper.specs.InstructionToken.{endOpcode, endToken}
 use Rattle.paper.specs.Places.{Place}
 use Rattle.paper.specs.declared.Version.{Version}
 use Rattle.places.specs.Places.{decoded}
-use Rattle.opcodes.specs.Shape.{shapeOf}
-use Rattle.instruction_token.specs.Encoded.{stepIn, placesBy}
+use Rattle.opcodes.specs.Shape.{shapeOf, stepIn}
+use Rattle.instruction_token.specs.ByShape.{placesBy}
 use Rattle.records.specs.declared.Record.{Record}
 use Rattle.record_tokens.specs.Tokens.{instructionToken, tokensBehind}
 

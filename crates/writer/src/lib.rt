@@ -28,16 +28,8 @@ use records::Record;
 // With its first token a comment is no longer than the longest stream.
 const LONGEST_COMMENT: usize = paper::MOST_TOKENS - 1;
 
-// The operands of a record, the predicate's last.
-const OPERANDS: usize = 6;
-
 // No instruction but a comment has more tokens than its first one and two for each operand.
-const MOST_ENCODED: usize = 1 + 2 * OPERANDS;
-
-// What a shape says: below this its places, above it behind how many of them the predicate stands.
-const SHAPE_PLACES: u64 = 0x8_0000_0000;
-
-const SHAPE_STEPS: u64 = 8;
+const MOST_ENCODED: usize = 1 + 2 * records::OPERANDS;
 
 // The bit of an instruction token that says predicated.
 const MARK: u32 = 0x1000_0000;
@@ -78,7 +70,7 @@ fn same_record(a: Record, b: Record) -> bool
         return false;
     }
     let mut i = 0;
-    while i < OPERANDS {
+    while i < records::OPERANDS {
         let x = a.operands[i];
         let y = b.operands[i];
         if !same_operand(x, y) {
@@ -163,7 +155,7 @@ fn choose(test: bool, first: usize, second: usize) -> usize
 
 // The operands of a row of places from place 1 of the room on, those in token order one after the other, and the predicate's where the row
 // has it. The next place.
-fn put_row(room: &mut [u32], row: u64, operands: [Operand; OPERANDS]) -> usize
+fn put_row(room: &mut [u32], row: u64, operands: [Operand; records::OPERANDS]) -> usize
     requires { ⌜ (length (decoded row) ≤ operandCount) × (mostEncoded ≤ length (now room)) ⌝ }
     ensures { λ next. ⌜ Put (rowTokens (decoded row) operands (getD operands 5 noOperand)) (now (room .entry)) 1 next (now (room .exit)) × (next ≤ mostEncoded) ⌝ }
 {
@@ -173,7 +165,7 @@ fn put_row(room: &mut [u32], row: u64, operands: [Operand; OPERANDS]) -> usize
     while left != 0 {
         let place = left % places::BASE;
         let predicate = places::is_predicate(place);
-        let slot = choose(predicate, OPERANDS - 1, held);
+        let slot = choose(predicate, records::PREDICATE_SLOT, held);
         let operand = operands[slot];
         next = put_operand(room, next, place, operand);
         held = choose(predicate, held, held + 1);
@@ -189,7 +181,7 @@ fn row_of(shape: u64, marked: bool) -> u64
     if !marked {
         return instruction_token::places_of(shape, 0);
     }
-    if shape / SHAPE_PLACES % SHAPE_STEPS == 0 {
+    if opcodes::step_in(shape) == 0 {
         return 0;
     }
     instruction_token::places_of(shape, MARK)

@@ -3,7 +3,7 @@ use mathlib.Core.Bool.{true, false}
 use Prim.Native.Nat.{ℕ, _+_, _-_, _≤_, _<_}
 use native.Mathlib.Omega.{arith}
 use lib.ListN.{length}
-use Rattle.paper.proofs.Bools.{not-true, not-false}
+use borrow.Author.Tests.{not-true, not-false}
 use Rattle.stretches.specs.Stretch.{nextAt, PlainTo, here}
 use Rattle.stretches.proofs.Stretches.{told-none, turn-inside, turn-on, turn-last, turn-stop}
 use borrow.Author.Needs.{needs}

@@ -63,7 +63,6 @@ put-row-spec =
     μ-loop
     (λ c. (omega arith, refl, omega arith, omega arith, record { ends = refl; leaves = refl }))
     (λ c κs. search needs)
-    (λ c. search needs)
     (λ c κs. search needs)
     (λ c. omega (arith, slot c))
     (λ c. omega (arith, slot c))
