@@ -11,7 +11,7 @@ use Rattle.walk.specs.declared.State.{State}
 use Rattle.walk.specs.declared.Step.{Step}
 use Rattle.walk.specs.Steps.{toldStep, Passes}
 use Rattle.walk.specs.Stands.{Stands, Comes}
-use Rattle.walk.proofs.Stretching.{Shows, steps-comes, pass-steps}
+use Rattle.walk.proofs.Stretching.{Shows, pass-comes}
 use Rattle.byte_checker.specs.declared.View.{View}
 use Rattle.byte_checker.specs.Bytes.{tokensIn}
 use Rattle.byte_checker.specs.Views.{Within, held}
@@ -56,8 +56,5 @@ module _
         Passes v (held (tokensIn bytes) view) state (state .at - view .start) (view .until - view .start) (tokens - (view .start + view .held)) (toldStep x) →
         Comes v (tokensIn bytes) (state .at + 1) x
     view-comes x p =
-        let fit : length (tokensIn bytes) < 2 ^ 64 = omega (arith, long) in
-        steps-comes v (tokensIn bytes) fit (state .at) (state .at + (view .until - view .start - (state .at - view .start))) x
-        (pass-steps v (tokensIn bytes) fit (held (tokensIn bytes) view) (tokens - (view .start + view .held)) (view .until - view .start) (state .at - view .start)
-        (view .until - view .start) state stands view-shows (omega arith) (omega arith) x p)
-        (omega (arith, within .inside, within .begins, long))
+        pass-comes v (tokensIn bytes) (omega (arith, long)) (held (tokensIn bytes) view) (tokens - (view .start + view .held)) (view .until - view .start)
+        (state .at - view .start) (view .until - view .start) state stands view-shows (omega arith) (omega arith) x p

@@ -9,7 +9,7 @@ use lib.Seq.{drop-drop, take-append-le}
 use borrow.Author.Tests.{eqb-true, eqb-false}
 use Rattle.paper.specs.Versions.{versionToken}
 use Rattle.paper.specs.InstructionToken.{opcodeOf, commentLength, endOpcode, endToken}
-use Rattle.paper.specs.Instruction.{Head, tokenHead, claim, onClaimed, judged}
+use Rattle.paper.specs.Instruction.{Head, end, tokenHead, claim, onClaimed, judged}
 use Rattle.paper.specs.Blocks.{classOf}
 use Rattle.paper.specs.Stream.{mostTokens}
 use Rattle.paper.specs.declared.Version.{Version}

@@ -75,7 +75,7 @@ module _ (v : Version) (s : List ℕ) where
           let c : comesBy v s from On (step .state) = rw (on .0) at comes in
           (c .0, c .1, on .1)
 
-      -- it does not: it is at it or behind the position, or the verdict is known
+      -- it does not: it is at the position or behind it, or the verdict is known
       pub comes-not : goesOn step until ≡ false → Comes v s until step
       comes-not g = not-by (step .answer) (step .state) from until comes g
 

@@ -1,5 +1,5 @@
 -- The walk passes a stretch of plain instructions, and steps over the instruction at its end.
-use Prim.Native.Nat.{ℕ, suc, _+_, _-_, _/_, _^_, _≤_, _<_}
+use Prim.Native.Nat.{ℕ, suc, _+_, _-_, _^_, _≤_, _<_}
 use mathlib.Core.Path.{_≡_, refl, ap, sym, subst, _∙_}
 use mathlib.Core.List.{List}
 use native.Mathlib.Nat.{mod-eq-of-lt, add-zero}
@@ -7,7 +7,7 @@ use native.Mathlib.Omega.{arith}
 use lib.ListN.{length, drop}
 use Rattle.paper.specs.Instruction.{judged}
 use Rattle.paper.specs.declared.Version.{Version}
-use Rattle.told.specs.Numbered.{judgedNumber, judgedFrom}
+use Rattle.told.specs.Numbered.{sizeIn, judgedNumber, judgedFrom}
 use Rattle.stretches.specs.Stretch.{toldAt, PlainTo, here, past}
 use Rattle.stretches.specs.declared.Stretch.{Stretch}
 use Rattle.stretches.proofs.Stretches.{told-whole, plain-judged}
@@ -88,12 +88,12 @@ module _ (v : Version) (s : List ℕ) (fits : length s < 2 ^ 64) where
           let is = ap (toldAt v tokens beyond) (p .1) ∙ shows .same k (omega (arith, p .1, p .2)) in
           let good = plain-judged (judged v (drop (state .at + k) s)) told is plain in
           let inside : state .at + k < length s = omega (arith, p .1, p .2, shows .inside) in
-          let place : state .at + k + suc (told / 32) ≡ state .at + (k + suc (told / 32)) = omega arith in
+          let place : state .at + k + suc (sizeIn told) ≡ state .at + (k + suc (sizeIn told)) = omega arith in
           let more : suc (state .count + n) ≡ state .count + suc n = omega arith in (
-            k + suc (told / 32),
+            k + suc (sizeIn told),
             omega (arith, p .1),
             omega arith,
-            rw (← place, ← more) (stands-plain v s (further state k n) (p .3) inside fits (told / 32) good),
+            rw (← place, ← more) (stands-plain v s (further state k n) (p .3) inside fits (sizeIn told) good),
           )
 
       -- the pass is a step of the stream's walk
@@ -118,6 +118,10 @@ module _ (v : Version) (s : List ℕ) (fits : length s < 2 ^ 64) where
                 ∙ ap (onJudged (judgedFrom (r .told))) is
                 ∙ told-moves last (r .told) (judged v (drop (state .at + l .0) s)) tells);
           }
+
+      -- it comes to where the walk then stands, or the verdict of the stream is known
+      pub pass-comes : (x : Step) → Passes v tokens state at stop beyond (toldStep x) → Comes v s (state .at + 1) x
+      pass-comes x p = steps-comes (state .at) (state .at + (end - at)) x (pass-steps x p) (shows .inside)
 
   -- a stream shows itself
   pub shows-whole : (at end : ℕ) → at < end → end ≤ length s → Shows v s s 0 at at end

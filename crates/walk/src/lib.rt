@@ -19,7 +19,7 @@ use paper::Version;
 // than its first token and these.
 pub const MOST_CLAIMED: usize = 15;
 
-pub const MOST_SHOWN: usize = 16;
+pub const MOST_SHOWN: usize = MOST_CLAIMED + 1;
 
 // The open blocks are one number, a digit for each, the innermost lowest. No digit is 0, so that 0 says that none is open.
 const BASE: u64 = 5;
