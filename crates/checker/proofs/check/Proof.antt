@@ -11,12 +11,6 @@ use Rattle.checker.proofs.check.Tie as tie
 shared-slice-read-version-of : tie.Need-shared-slice-read-version-of
 shared-slice-read-version-of c = omega (arith, laid-two (length (c .before .before .before .args .tokens .now)) (c .before .if1 .taken))
 
-version-of-requires : tie.Need-version-of-requires
-version-of-requires c κs = search needs
-
-enum-known-named : tie.Need-enum-known-named
-enum-known-named c = search needs
-
 check-behind-requires : tie.Need-check-behind-requires
 check-behind-requires c κs =
     let length-test = c .before .before .before .before .before in
@@ -24,9 +18,6 @@ check-behind-requires c κs =
 
 enum-told : tie.Need-enum-told
 enum-told c = search needs
-
-refused-requires : tie.Need-refused-requires
-refused-requires c κs = search needs
 
 returns : tie.Need-returns
 returns c =
@@ -42,9 +33,6 @@ returns-2 c =
     ∙ sym (verdict-version (length-test .before .before .args .tokens .now) (length-test .if1 .taken)
     (sym (same-named _ _ (c .before .before .before .version-of .ensures)) ∙ c .before .enum-told .given .1)))
 
-refused-requires-2 : tie.Need-refused-requires-2
-refused-requires-2 c κs = search needs
-
 returns-3 : tie.Need-returns-3
 returns-3 c = ap told (c .refused2 .ensures ∙ sym (verdict-length (c .before .before .before .args .tokens .now) (c .before .if1 .left)))
 
@@ -53,12 +41,12 @@ check-spec =
     tie.close
     (tie.spec
     shared-slice-read-version-of
-    version-of-requires
-    enum-known-named
+    (λ c κs. search needs)
+    (λ c. search needs)
     check-behind-requires
     enum-told
-    refused-requires
+    (λ c κs. search needs)
     returns
     returns-2
-    refused-requires-2
+    (λ c κs. search needs)
     returns-3)

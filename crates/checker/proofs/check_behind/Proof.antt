@@ -4,18 +4,6 @@ use borrow.Author.Needs.{needs}
 use Rattle.checker.proofs.check_behind.Statement.{statement}
 use Rattle.checker.proofs.check_behind.Tie as tie
 
-body-requires : tie.Need-body-requires
-body-requires c κs = search needs
-
-enum-known-whole : tie.Need-enum-known-whole
-enum-known-whole c = search needs
-
-finish-requires : tie.Need-finish-requires
-finish-requires c κs = search needs
-
-enum-known-whole-2 : tie.Need-enum-known-whole-2
-enum-known-whole-2 c = search needs
-
 returns : tie.Need-returns
 returns c =
     c .finish .ensures
@@ -27,4 +15,4 @@ returns-2 c = stream-broken (c .before .before .before .body .ensures) (c .befor
 pub check-behind-spec : {M : Type 1} → statement M
 check-behind-spec =
     tie.close
-    (tie.spec body-requires enum-known-whole finish-requires enum-known-whole-2 returns returns-2)
+    (tie.spec (λ c κs. search needs) (λ c. search needs) (λ c κs. search needs) (λ c. search needs) returns returns-2)

@@ -5,23 +5,11 @@ use borrow.Author.Needs.{needs}
 use Rattle.checker.proofs.close.Statement.{statement}
 use Rattle.checker.proofs.close.Tie as tie
 
-enum-known-end : tie.Need-enum-known-end
-enum-known-end c = search needs
-
-closer-number-requires : tie.Need-closer-number-requires
-closer-number-requires c κs = search needs
-
 add-t11 : tie.Need-add-t11
 add-t11 c = record { fits = subst Low (c .before .before .before .end .given .1) (c .before .before .before .before .before .pre) }
 
 returns : tie.Need-returns
 returns c = simp (c .before .before .before .end .given .1, eq-eqb _ _ (sym (c .before .closer-number .ensures) ∙ c .if1 .taken))
-
-refused-item-requires : tie.Need-refused-item-requires
-refused-item-requires c κs = search needs
-
-enum-known-end-2 : tie.Need-enum-known-end-2
-enum-known-end-2 c = search needs
 
 returns-2 : tie.Need-returns-2
 returns-2 c =
@@ -38,11 +26,11 @@ pub close-spec : {M : Type 1} → statement M
 close-spec =
     tie.close
     (tie.spec
-    enum-known-end
-    closer-number-requires
+    (λ c. search needs)
+    (λ c κs. search needs)
     add-t11
     returns
-    refused-item-requires
-    enum-known-end-2
+    (λ c κs. search needs)
+    (λ c. search needs)
     returns-2
     returns-3)

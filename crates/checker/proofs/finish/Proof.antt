@@ -4,12 +4,6 @@ use borrow.Author.Needs.{needs}
 use Rattle.checker.proofs.finish.Statement.{statement}
 use Rattle.checker.proofs.finish.Tie as tie
 
-closer-number-requires : tie.Need-closer-number-requires
-closer-number-requires c κs = search needs
-
-refused-requires : tie.Need-refused-requires
-refused-requires c κs = search needs
-
 returns : tie.Need-returns
 returns c =
     c .refused .ensures
@@ -21,9 +15,6 @@ returns c =
 returns-2 : tie.Need-returns-2
 returns-2 c = simp (le-ltb _ _ (c .if2 .left), eq-eqb _ _ (sym (c .before .before .closer-number .ensures) ∙ c .before .if1 .taken))
 
-refused-requires-2 : tie.Need-refused-requires-2
-refused-requires-2 c κs = search needs
-
 returns-3 : tie.Need-returns-3
 returns-3 c = c .refused2 .ensures ∙ simp (ne-eqb _ _ (λ h. c .before .if1 .left (c .before .before .closer-number .ensures ∙ h)))
 
@@ -31,9 +22,9 @@ pub finish-spec : {M : Type 1} → statement M
 finish-spec =
     tie.close
     (tie.spec
-    closer-number-requires
-    refused-requires
+    (λ c κs. search needs)
+    (λ c κs. search needs)
     returns
     returns-2
-    refused-requires-2
+    (λ c κs. search needs)
     returns-3)

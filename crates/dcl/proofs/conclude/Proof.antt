@@ -3,23 +3,14 @@ use borrow.Author.Tests.{eq-eqb, ne-eqb}
 use Rattle.dcl.proofs.conclude.Statement.{statement}
 use Rattle.dcl.proofs.conclude.Tie as tie
 
-refused-requires : tie.Need-refused-requires
-refused-requires c κs = search needs
-
 returns : tie.Need-returns
 returns c = simp (c .refused .ensures, ne-eqb _ _ (c .before .if1 .taken))
 
 returns-2 : tie.Need-returns-2
 returns-2 c = simp (c .if3 .taken, c .before .if2 .taken, eq-eqb _ _ (c .before .before .if1 .left))
 
-refused-requires-2 : tie.Need-refused-requires-2
-refused-requires-2 c κs = search needs
-
 returns-3 : tie.Need-returns-3
 returns-3 c = simp (c .refused2 .ensures, c .before .if3 .left, c .before .before .if2 .taken, eq-eqb _ _ (c .before .before .before .if1 .left))
-
-refused-requires-3 : tie.Need-refused-requires-3
-refused-requires-3 c κs = search needs
 
 returns-4 : tie.Need-returns-4
 returns-4 c = simp (c .refused3 .ensures, c .before .if2 .left, eq-eqb _ _ (c .before .before .if1 .left))
@@ -28,10 +19,10 @@ pub conclude-spec : {M : Type 1} → statement M
 conclude-spec =
     tie.close
     (tie.spec
-    refused-requires
+    (λ c κs. search needs)
     returns
     returns-2
-    refused-requires-2
+    (λ c κs. search needs)
     returns-3
-    refused-requires-3
+    (λ c κs. search needs)
     returns-4)

@@ -6,12 +6,6 @@ use Rattle.dcl.proofs.Declarations.{form-laid}
 use Rattle.dcl.proofs.form_laid.Statement.{statement}
 use Rattle.dcl.proofs.form_laid.Tie as tie
 
-form-of-requires : tie.Need-form-of-requires
-form-of-requires c κs = search needs
-
-sampler-form-requires : tie.Need-sampler-form-requires
-sampler-form-requires c κs = search needs
-
 returns : tie.Need-returns
 returns c =
     let s = c .before .before in
@@ -21,12 +15,6 @@ returns-2 : tie.Need-returns-2
 returns-2 c =
     let s = c .before .before in
     rw (form-laid _ _ _, sym (s .form-of .ensures) ∙ c .if2 .taken, div-one (s .before .args .usage))
-
-is-pixel-requires : tie.Need-is-pixel-requires
-is-pixel-requires c κs = search needs
-
-pixel-usage-requires : tie.Need-pixel-usage-requires
-pixel-usage-requires c κs = search needs
 
 returns-3 : tie.Need-returns-3
 returns-3 c =
@@ -38,9 +26,6 @@ returns-3 c =
       ne-eqb _ _ (s .before .if2 .left),
       sym (s .is-pixel .ensures) ∙ c .before .if3 .taken,
     ) (c .pixel-usage .ensures)
-
-vertex-usage-requires : tie.Need-vertex-usage-requires
-vertex-usage-requires c κs = search needs
 
 returns-4 : tie.Need-returns-4
 returns-4 c =
@@ -57,12 +42,12 @@ pub form-laid-spec : {M : Type 1} → statement M
 form-laid-spec =
     tie.close
     (tie.spec
-    form-of-requires
-    sampler-form-requires
+    (λ c κs. search needs)
+    (λ c κs. search needs)
     returns
     returns-2
-    is-pixel-requires
-    pixel-usage-requires
+    (λ c κs. search needs)
+    (λ c κs. search needs)
     returns-3
-    vertex-usage-requires
+    (λ c κs. search needs)
     returns-4)

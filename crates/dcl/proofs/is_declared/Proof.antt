@@ -4,11 +4,8 @@ use Rattle.dcl.proofs.Declarations.{form-declared}
 use Rattle.dcl.proofs.is_declared.Statement.{statement}
 use Rattle.dcl.proofs.is_declared.Tie as tie
 
-form-of-requires : tie.Need-form-of-requires
-form-of-requires c κs = search needs
-
 returns : tie.Need-returns
 returns c = rw (c .form-of .ensures) (form-declared (c .before .args .version) (typeOf (c .before .args .destination)))
 
 pub is-declared-spec : {M : Type 1} → statement M
-is-declared-spec = tie.close (tie.spec form-of-requires returns)
+is-declared-spec = tie.close (tie.spec (λ c κs. search needs) returns)

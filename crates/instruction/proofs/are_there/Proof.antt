@@ -7,9 +7,6 @@ use borrow.Author.Needs.{needs}
 use Rattle.instruction.proofs.are_there.Statement.{statement}
 use Rattle.instruction.proofs.are_there.Tie as tie
 
-sub-result : tie.Need-sub-result
-sub-result c = search needs
-
 returns : tie.Need-returns
 returns c = there-less _ _ _ (c .if1 .taken)
 
@@ -19,4 +16,4 @@ returns-2 c =
     sym (le-leb (g .claimed) (g .shown + g .beyond) (omega (arith, c .if1 .left)))
 
 pub are-there-spec : {M : Type 1} → statement M
-are-there-spec = tie.close (tie.spec sub-result returns returns-2)
+are-there-spec = tie.close (tie.spec (λ c. search needs) returns returns-2)

@@ -14,32 +14,11 @@ use Rattle.instruction.proofs.judge_first.Tie as tie
 shape : (a : tie.After-shape-of) → a .shape-of .result ≡ shapeOf (a .before .before .before .args .version) (opcodeOf (a .before .before .before .args .first))
 shape a = a .shape-of .ensures ∙ ap (shapeOf (a .before .before .before .args .version)) (a .before .opcode-of .ensures)
 
-opcode-of-requires : tie.Need-opcode-of-requires
-opcode-of-requires c κs = search needs
-
-shape-of-requires : tie.Need-shape-of-requires
-shape-of-requires c κs = search needs
-
-judge-unlisted-requires : tie.Need-judge-unlisted-requires
-judge-unlisted-requires c κs = search needs
-
 returns : tie.Need-returns
 returns c =
     let g = c .before .before .before .before .before .args in
     rw (judged-unlisted (g .version) (g .first) (g .behind .now) (length (g .behind .now) + g .beyond) (sym (shape (c .before .before)) ∙ c .before .if1 .taken))
     (c .judge-unlisted .ensures)
-
-bits-laid-requires : tie.Need-bits-laid-requires
-bits-laid-requires c κs = search needs
-
-sub-judge-listed : tie.Need-sub-judge-listed
-sub-judge-listed c = search needs
-
-part-judge-listed-start : tie.Need-part-judge-listed-start
-part-judge-listed-start c = search needs
-
-part-judge-listed-end : tie.Need-part-judge-listed-end
-part-judge-listed-end c = search needs
 
 judge-listed-requires : tie.Need-judge-listed-requires
 judge-listed-requires c κs =
@@ -58,9 +37,6 @@ returns-2 c =
     )
     (rw (take-all (length (g .behind .now) - 0) (g .behind .now) (omega arith)) at (c .judge-listed .ensures))
 
-refused-first-requires : tie.Need-refused-first-requires
-refused-first-requires c κs = search needs
-
 returns-3 : tie.Need-returns-3
 returns-3 c =
     let d = c .before .before .before .before in
@@ -76,15 +52,15 @@ pub judge-first-spec : {M : Type 1} → statement M
 judge-first-spec =
     tie.close
     (tie.spec
-    opcode-of-requires
-    shape-of-requires
-    judge-unlisted-requires
+    (λ c κs. search needs)
+    (λ c κs. search needs)
+    (λ c κs. search needs)
     returns
-    bits-laid-requires
-    sub-judge-listed
-    part-judge-listed-start
-    part-judge-listed-end
+    (λ c κs. search needs)
+    (λ c. search needs)
+    (λ c. search needs)
+    (λ c. search needs)
     judge-listed-requires
     returns-2
-    refused-first-requires
+    (λ c κs. search needs)
     returns-3)

@@ -12,15 +12,6 @@ use borrow.Author.Needs.{needs}
 use Rattle.instruction.proofs.judge_listed.Statement.{statement}
 use Rattle.instruction.proofs.judge_listed.Tie as tie
 
-claim-of-requires : tie.Need-claim-of-requires
-claim-of-requires c κs = search needs
-
-cast-size : tie.Need-cast-size
-cast-size c = search needs
-
-refused-first-requires : tie.Need-refused-first-requires
-refused-first-requires c κs = search needs
-
 returns : tie.Need-returns
 returns c = rw (lt-leb _ _ (rw (c .before .before .claim-of .ensures) at (c .before .if1 .taken))) (c .refused-first .ensures)
 
@@ -28,15 +19,6 @@ slice-aggregate-judge-claimed : tie.Need-slice-aggregate-judge-claimed
 slice-aggregate-judge-claimed c =
     let g = c .before .before .before .before .args in
     sym (length-take-le _ (g .behind .now) (c .before .if1 .left))
-
-judge-claimed-requires : tie.Need-judge-claimed-requires
-judge-claimed-requires c κs = search needs
-
-class-in-requires : tie.Need-class-in-requires
-class-in-requires c κs = search needs
-
-yes-requires : tie.Need-yes-requires
-yes-requires c κs = search needs
 
 returns-2 : tie.Need-returns-2
 returns-2 c =
@@ -58,13 +40,13 @@ pub judge-listed-spec : {M : Type 1} → statement M
 judge-listed-spec =
     tie.close
     (tie.spec
-    claim-of-requires
-    cast-size
-    refused-first-requires
+    (λ c κs. search needs)
+    (λ c. search needs)
+    (λ c κs. search needs)
     returns
     slice-aggregate-judge-claimed
-    judge-claimed-requires
-    class-in-requires
-    yes-requires
+    (λ c κs. search needs)
+    (λ c κs. search needs)
+    (λ c κs. search needs)
     returns-2
     returns-3)

@@ -5,24 +5,6 @@ use borrow.Author.Needs.{needs}
 use Rattle.instruction.proofs.judge_unlisted.Statement.{statement}
 use Rattle.instruction.proofs.judge_unlisted.Tie as tie
 
-opcode-of-requires : tie.Need-opcode-of-requires
-opcode-of-requires c κs = search needs
-
-comment-laid-requires : tie.Need-comment-laid-requires
-comment-laid-requires c κs = search needs
-
-comment-length-requires : tie.Need-comment-length-requires
-comment-length-requires c κs = search needs
-
-cast-are-there : tie.Need-cast-are-there
-cast-are-there c = search needs
-
-are-there-requires : tie.Need-are-there-requires
-are-there-requires c κs = search needs
-
-yes-requires : tie.Need-yes-requires
-yes-requires c κs = search needs
-
 returns : tie.Need-returns
 unfolding unlistedIn
 returns c =
@@ -34,9 +16,6 @@ returns c =
       sym (c .before .before .are-there .ensures) ∙ c .before .if3 .taken,
     )
     (c .yes .ensures)
-
-refused-first-requires : tie.Need-refused-first-requires
-refused-first-requires c κs = search needs
 
 returns-2 : tie.Need-returns-2
 unfolding unlistedIn
@@ -50,9 +29,6 @@ returns-2 c =
     )
     (c .refused-first .ensures)
 
-refused-first-requires-2 : tie.Need-refused-first-requires-2
-refused-first-requires-2 c κs = search needs
-
 returns-3 : tie.Need-returns-3
 unfolding unlistedIn
 returns-3 c =
@@ -62,9 +38,6 @@ returns-3 c =
       sym (d .comment-laid .ensures) ∙ c .before .if2 .left,
     )
     (c .refused-first2 .ensures)
-
-yes-requires-2 : tie.Need-yes-requires-2
-yes-requires-2 c κs = search needs
 
 returns-4 : tie.Need-returns-4
 unfolding unlistedIn
@@ -77,9 +50,6 @@ returns-4 c =
     )
     (c .yes2 .ensures)
 
-refused-first-requires-3 : tie.Need-refused-first-requires-3
-refused-first-requires-3 c κs = search needs
-
 returns-5 : tie.Need-returns-5
 unfolding unlistedIn
 returns-5 c =
@@ -90,9 +60,6 @@ returns-5 c =
       ne-eqb _ _ (c .before .if5 .left),
     )
     (c .refused-first3 .ensures)
-
-refused-first-requires-4 : tie.Need-refused-first-requires-4
-refused-first-requires-4 c κs = search needs
 
 returns-6 : tie.Need-returns-6
 unfolding unlistedIn
@@ -105,20 +72,20 @@ pub judge-unlisted-spec : {M : Type 1} → statement M
 judge-unlisted-spec =
     tie.close
     (tie.spec
-    opcode-of-requires
-    comment-laid-requires
-    comment-length-requires
-    cast-are-there
-    are-there-requires
-    yes-requires
+    (λ c κs. search needs)
+    (λ c κs. search needs)
+    (λ c κs. search needs)
+    (λ c. search needs)
+    (λ c κs. search needs)
+    (λ c κs. search needs)
     returns
-    refused-first-requires
+    (λ c κs. search needs)
     returns-2
-    refused-first-requires-2
+    (λ c κs. search needs)
     returns-3
-    yes-requires-2
+    (λ c κs. search needs)
     returns-4
-    refused-first-requires-3
+    (λ c κs. search needs)
     returns-5
-    refused-first-requires-4
+    (λ c κs. search needs)
     returns-6)

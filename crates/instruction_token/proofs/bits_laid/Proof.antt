@@ -5,25 +5,10 @@ use borrow.Author.Needs.{needs}
 use Rattle.instruction_token.proofs.bits_laid.Statement.{statement}
 use Rattle.instruction_token.proofs.bits_laid.Tie as tie
 
-has-zeros-requires : tie.Need-has-zeros-requires
-has-zeros-requires c κs = search needs
-
-rule-in-requires : tie.Need-rule-in-requires
-rule-in-requires c κs = search needs
-
 returns : tie.Need-returns
 returns c =
     let g = c .before .before .before .args in
     rw (zeros-laid (g .shape) (g .token) (sym (c .before .before .has-zeros .ensures) ∙ c .before .if1 .taken), ← (c .rule-in .ensures))
-
-rule-in-requires-2 : tie.Need-rule-in-requires-2
-rule-in-requires-2 c κs = search needs
-
-controls-laid-requires : tie.Need-controls-laid-requires
-controls-laid-requires c κs = search needs
-
-step-in-requires : tie.Need-step-in-requires
-step-in-requires c κs = search needs
 
 returns-2 : tie.Need-returns-2
 unfolding bitsBy
@@ -33,10 +18,10 @@ pub bits-laid-spec : {M : Type 1} → statement M
 bits-laid-spec =
     tie.close
     (tie.spec
-    has-zeros-requires
-    rule-in-requires
+    (λ c κs. search needs)
+    (λ c κs. search needs)
     returns
-    rule-in-requires-2
-    controls-laid-requires
-    step-in-requires
+    (λ c κs. search needs)
+    (λ c κs. search needs)
+    (λ c κs. search needs)
     returns-2)

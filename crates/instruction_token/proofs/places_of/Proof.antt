@@ -10,18 +10,6 @@ use borrow.Author.Needs.{needs}
 use Rattle.instruction_token.proofs.places_of.Statement.{statement}
 use Rattle.instruction_token.proofs.places_of.Tie as tie
 
-places-in-requires : tie.Need-places-in-requires
-places-in-requires c κs = search needs
-
-step-in-requires : tie.Need-step-in-requires
-step-in-requires c κs = search needs
-
-mul-result : tie.Need-mul-result
-mul-result c = search needs
-
-shl-result : tie.Need-shl-result
-shl-result c = search needs
-
 add-result : tie.Need-add-result
 add-result c =
     let small : c .step-in .result < 8 = rw (c .step-in .ensures) (mod-lt _ (lit< tt)) in
@@ -45,10 +33,10 @@ pub places-of-spec : {M : Type 1} → statement M
 places-of-spec =
     tie.close
     (tie.spec
-    places-in-requires
-    step-in-requires
-    mul-result
-    shl-result
+    (λ c κs. search needs)
+    (λ c κs. search needs)
+    (λ c. search needs)
+    (λ c. search needs)
     add-result
     returns
     returns-2)

@@ -6,19 +6,10 @@ use Rattle.layout.proofs.free_destination_laid.Statement.{statement}
 use Rattle.layout.proofs.free_destination_laid.Tie as tie
 use Rattle.paper.specs.Places.{freeDestination}
 
-both-laid-requires : tie.Need-both-laid-requires
-both-laid-requires c κs = search needs
-
-result-laid-requires : tie.Need-result-laid-requires
-result-laid-requires c κs = search needs
-
 returns : tie.Need-returns
 returns c =
     let g = c .before .before .before .before .before .args in
     sym (destination-order (g .version) freeDestination (g .token) ∙ simp (rw (c .before .before .before .before .both-laid .ensures) at (c .before .before .before .if1 .taken), sym (c .before .before .result-laid .ensures) ∙ c .before .if2 .taken, eq-eqb _ _ (c .if3 .taken)))
-
-relative-destinations-requires : tie.Need-relative-destinations-requires
-relative-destinations-requires c κs = search needs
 
 returns-2 : tie.Need-returns-2
 returns-2 c =
@@ -39,10 +30,10 @@ pub free-destination-laid-spec : {M : Type 1} → statement M
 free-destination-laid-spec =
     tie.close
     (tie.spec
-    both-laid-requires
-    result-laid-requires
+    (λ c κs. search needs)
+    (λ c κs. search needs)
     returns
-    relative-destinations-requires
+    (λ c κs. search needs)
     returns-2
     returns-3
     returns-4)

@@ -4,17 +4,8 @@ use borrow.Author.Needs.{needs}
 use Rattle.layout.proofs.free_source_laid.Statement.{statement}
 use Rattle.layout.proofs.free_source_laid.Tie as tie
 
-both-laid-requires : tie.Need-both-laid-requires
-both-laid-requires c κs = search needs
-
-source-modifier-requires : tie.Need-source-modifier-requires
-source-modifier-requires c κs = search needs
-
 returns : tie.Need-returns
 returns c = simp (sym (c .before .before .before .before .both-laid .ensures) ∙ c .before .before .before .if1 .taken, sym (c .before .before .source-modifier .ensures) ∙ c .before .if2 .taken, eq-eqb _ _ (c .if3 .taken))
-
-relative-sources-requires : tie.Need-relative-sources-requires
-relative-sources-requires c κs = search needs
 
 returns-2 : tie.Need-returns-2
 returns-2 c = simp (sym (c .before .before .before .before .before .both-laid .ensures) ∙ c .before .before .before .before .if1 .taken, sym (c .before .before .before .source-modifier .ensures) ∙ c .before .before .if2 .taken, ne-eqb _ _ (c .before .if3 .left), c .relative-sources .ensures)
@@ -29,10 +20,10 @@ pub free-source-laid-spec : {M : Type 1} → statement M
 free-source-laid-spec =
     tie.close
     (tie.spec
-    both-laid-requires
-    source-modifier-requires
+    (λ c κs. search needs)
+    (λ c κs. search needs)
     returns
-    relative-sources-requires
+    (λ c κs. search needs)
     returns-2
     returns-3
     returns-4)

@@ -5,12 +5,6 @@ use Rattle.layout.proofs.Layouts.{unfree-order}
 use Rattle.layout.proofs.predicate_laid.Statement.{statement}
 use Rattle.layout.proofs.predicate_laid.Tie as tie
 
-unfree-laid-requires : tie.Need-unfree-laid-requires
-unfree-laid-requires c κs = search needs
-
-type-of-requires : tie.Need-type-of-requires
-type-of-requires c κs = search needs
-
 returns : tie.Need-returns
 returns c =
     let g = c .before .before .before .args in
@@ -24,4 +18,4 @@ returns-2 c =
     sym (unfree-order (g .version) predicate (g .token) refl ∙ simp (sym (c .before .unfree-laid .ensures) ∙ c .if1 .left))
 
 pub predicate-laid-spec : {M : Type 1} → statement M
-predicate-laid-spec = tie.close (tie.spec unfree-laid-requires type-of-requires returns returns-2)
+predicate-laid-spec = tie.close (tie.spec (λ c κs. search needs) (λ c κs. search needs) returns returns-2)

@@ -6,11 +6,8 @@ use Rattle.layout.proofs.result_laid.Tie as tie
 returns : tie.Need-returns
 returns c = simp (eq-eqb _ _ (c .if1 .taken))
 
-is-pixel-requires : tie.Need-is-pixel-requires
-is-pixel-requires c κs = search needs
-
 returns-2 : tie.Need-returns-2
 returns-2 c = simp (c .is-pixel .ensures, ne-eqb _ _ (c .before .if1 .left))
 
 pub result-laid-spec : {M : Type 1} → statement M
-result-laid-spec = tie.close (tie.spec returns is-pixel-requires returns-2)
+result-laid-spec = tie.close (tie.spec returns (λ c κs. search needs) returns-2)

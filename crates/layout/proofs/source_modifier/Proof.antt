@@ -8,17 +8,11 @@ use borrow.Author.Needs.{needs}
 use Rattle.layout.proofs.source_modifier.Statement.{statement}
 use Rattle.layout.proofs.source_modifier.Tie as tie
 
-shr-if1 : tie.Need-shr-if1
-shr-if1 c = search needs
-
 returns : tie.Need-returns
 unfolding holds
 returns c =
     let g = c .before .args in
     sym (source-modifier (modifierOf (g .token)) (typeOf (g .token)) (omega arith) ∙ simp (eq-eqb _ _ (c .if1 .taken)))
-
-type-of-requires : tie.Need-type-of-requires
-type-of-requires c κs = search needs
 
 returns-2 : tie.Need-returns-2
 unfolding holds
@@ -27,4 +21,4 @@ returns-2 c =
     sym (source-modifier (modifierOf (g .token)) (typeOf (g .token)) (omega arith) ∙ simp (c .type-of .ensures .0, ne-eqb _ _ (c .before .if1 .left)))
 
 pub source-modifier-spec : {M : Type 1} → statement M
-source-modifier-spec = tie.close (tie.spec shr-if1 returns type-of-requires returns-2)
+source-modifier-spec = tie.close (tie.spec (λ c. search needs) returns (λ c κs. search needs) returns-2)

@@ -4,12 +4,6 @@ use borrow.Author.Needs.{needs}
 use Rattle.layout.proofs.typed_destination_laid.Statement.{statement}
 use Rattle.layout.proofs.typed_destination_laid.Tie as tie
 
-both-laid-requires : tie.Need-both-laid-requires
-both-laid-requires c κs = search needs
-
-result-laid-requires : tie.Need-result-laid-requires
-result-laid-requires c κs = search needs
-
 returns : tie.Need-returns
 returns c =
     let g = c .before .before .before .args in
@@ -22,4 +16,4 @@ returns-2 c =
 
 pub typed-destination-laid-spec : {M : Type 1} → statement M
 typed-destination-laid-spec =
-    tie.close (tie.spec both-laid-requires result-laid-requires returns returns-2)
+    tie.close (tie.spec (λ c κs. search needs) (λ c κs. search needs) returns returns-2)

@@ -11,18 +11,12 @@ use Rattle.layout.proofs.Layouts.{unfree-order}
 use Rattle.layout.proofs.typed_source_laid.Statement.{statement}
 use Rattle.layout.proofs.typed_source_laid.Tie as tie
 
-unfree-laid-requires : tie.Need-unfree-laid-requires
-unfree-laid-requires c κs = search needs
-
 returns : tie.Need-returns
 returns c =
     let g = c .before .before .args in
     let both : (bothLaid (g .token) && eqb (bit 13 (g .token)) 0) && eqb (modifierOf (g .token)) 0 ≡ true = rw (c .before .unfree-laid .ensures) at (c .if1 .taken) in
     let zero = eqb-true (modifierOf (g .token)) 0 (both-right (bothLaid (g .token) && eqb (bit 13 (g .token)) 0) _ both) in
     sym (unfree-order (g .version) condition (g .token) refl ∙ rw (both-left (bothLaid (g .token) && eqb (bit 13 (g .token)) 0) _ both, zero))
-
-source-modifier-requires : tie.Need-source-modifier-requires
-source-modifier-requires c κs = search needs
 
 returns-2 : tie.Need-returns-2
 returns-2 c =
@@ -36,4 +30,4 @@ returns-3 c =
     sym (unfree-order (g .version) condition (g .token) refl ∙ simp (sym (c .before .before .unfree-laid .ensures) ∙ c .if2 .left))
 
 pub typed-source-laid-spec : {M : Type 1} → statement M
-typed-source-laid-spec = tie.close (tie.spec unfree-laid-requires returns source-modifier-requires returns-2 returns-3)
+typed-source-laid-spec = tie.close (tie.spec (λ c κs. search needs) returns (λ c κs. search needs) returns-2 returns-3)

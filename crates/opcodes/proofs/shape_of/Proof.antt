@@ -20,18 +20,6 @@ looks c =
     let g = c .before .before .before .args in
     looked-up (g .version) (g .opcode) _ _ _ (c .before .before .rank-of .ensures) (c .before .has-predicates .ensures) (c .row-of .ensures)
 
-rank-of-requires : tie.Need-rank-of-requires
-rank-of-requires c κs = search needs
-
-has-predicates-requires : tie.Need-has-predicates-requires
-has-predicates-requires c κs = search needs
-
-row-of-requires : tie.Need-row-of-requires
-row-of-requires c κs = search needs
-
-cast-if1 : tie.Need-cast-if1
-cast-if1 c = search needs
-
 shr-if1 : tie.Need-shr-if1
 shr-if1 c = omega (arith, rank-small (c .before .before .before .args .version))
 
@@ -45,12 +33,6 @@ returns-2 c = rw (eq-eqb _ _ (c .before .if1 .taken), c .if2 .left) at (looks (c
 returns-3 : tie.Need-returns-3
 returns-3 c = rw (ne-eqb _ _ (c .before .if1 .left), c .if3 .taken) at (looks (c .before .before))
 
-mul-result : tie.Need-mul-result
-mul-result c = search needs
-
-add-result : tie.Need-add-result
-add-result c = search needs
-
 returns-4 : tie.Need-returns-4
 returns-4 c = rw (ne-eqb _ _ (c .before .if1 .left), c .if3 .left) at (looks (c .before .before))
 
@@ -58,14 +40,14 @@ pub shape-of-spec : {M : Type 1} → statement M
 shape-of-spec =
     tie.close
     (tie.spec
-    rank-of-requires
-    has-predicates-requires
-    row-of-requires
-    cast-if1
+    (λ c κs. search needs)
+    (λ c κs. search needs)
+    (λ c κs. search needs)
+    (λ c. search needs)
     shr-if1
     returns
     returns-2
     returns-3
-    mul-result
-    add-result
+    (λ c. search needs)
+    (λ c. search needs)
     returns-4)

@@ -27,9 +27,6 @@ loop-holds c = (omega arith, omega arith, omega (arith, decoded-few (c .before .
 take-operand-requires : tie.Need-take-operand-requires Inv-loop μ-loop
 take-operand-requires c κs = (omega arith, omega arith)
 
-is-refused-requires : tie.Need-is-refused-requires Inv-loop μ-loop
-is-refused-requires c κs = search needs
-
 returns : tie.Need-returns Inv-loop μ-loop
 returns c =
     let s = c .before .before .before in
@@ -39,9 +36,6 @@ returns c =
     odd .2
     ∙ ap operandsNumber
     (sym (operands-refused (g .version) (l .left) (l .at) (g .behind .now) (omega arith) (s .loop-test .taken) _ (odd .1)) ∙ l .inv .3)
-
-taken-of-requires : tie.Need-taken-of-requires Inv-loop μ-loop
-taken-of-requires c κs = search needs
 
 add-at : tie.Need-add-at Inv-loop μ-loop
 add-at c =
@@ -77,9 +71,6 @@ returns-2 c =
     ap operandsNumber
     (sym (operands-fit (g .version) (l .left) (l .at + 1) (l .at) (g .behind .now) (c .before .loop-test .left) (c .if2 .taken)) ∙ l .inv .3)
 
-refused-requires : tie.Need-refused-requires Inv-loop μ-loop
-refused-requires c κs = search needs
-
 returns-3 : tie.Need-returns-3 Inv-loop μ-loop
 returns-3 c =
     let g = c .before .before .before .before .before .args in
@@ -96,12 +87,12 @@ judge-operands-spec =
     μ-loop
     loop-holds
     take-operand-requires
-    is-refused-requires
+    (λ c κs. search needs)
     returns
-    taken-of-requires
+    (λ c κs. search needs)
     add-at
     loop-less
     loop-again
     returns-2
-    refused-requires
+    (λ c κs. search needs)
     returns-3)

@@ -10,9 +10,6 @@ refused-at-requires c κs = omega arith
 returns : tie.Need-returns
 returns c = simp (c .refused-at .ensures, ne-eqb _ _ (c .before .if1 .taken))
 
-add-take-relative : tie.Need-add-take-relative
-add-take-relative c = search needs
-
 take-relative-requires : tie.Need-take-relative-requires
 take-relative-requires c κs = (omega arith, omega arith)
 
@@ -28,7 +25,7 @@ take-free-spec =
     (tie.spec
     refused-at-requires
     returns
-    add-take-relative
+    (λ c. search needs)
     take-relative-requires
     returns-2
     returns-3)

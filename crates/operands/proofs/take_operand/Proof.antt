@@ -9,36 +9,15 @@ use borrow.Author.Needs.{needs}
 use Rattle.operands.proofs.take_operand.Statement.{statement}
 use Rattle.operands.proofs.take_operand.Tie as tie
 
-refused-requires : tie.Need-refused-requires
-refused-requires c κs = search needs
-
 returns : tie.Need-returns
 returns c =
     let g = c .before .before .before .args in
     rw (operand-none (g .version) (placeBy (g .place)) (g .at + 1) (g .at) (g .behind .now) (c .before .if1 .taken)) (c .refused .ensures)
 
-mul-token : tie.Need-mul-token
-mul-token c = search needs
-
-shared-slice-read-token : tie.Need-shared-slice-read-token
-shared-slice-read-token c = search needs
-
-judge-source-requires : tie.Need-judge-source-requires
-judge-source-requires c κs = search needs
-
-take-free-requires : tie.Need-take-free-requires
-take-free-requires c κs = search needs
-
 returns-2 : tie.Need-returns-2
 returns-2 c =
     let g = c .before .before .before .before .before .before .args in
     rw (c .before .before .if2 .taken, free-source-place, free-number (g .version) freeSource (g .at + 1) (g .at) _ (g .behind .now) (c .before .before .before .before .if1 .left) (c .before .judge-source .ensures) refl) (c .take-free .ensures)
-
-judge-destination-requires : tie.Need-judge-destination-requires
-judge-destination-requires c κs = search needs
-
-take-free-requires-2 : tie.Need-take-free-requires-2
-take-free-requires-2 c κs = search needs
 
 returns-3 : tie.Need-returns-3
 returns-3 c =
@@ -50,12 +29,6 @@ returns-4 c =
     let g = c .before .before .before .before .before .before .args in
     sym (raw-number (g .version) (placeBy (g .place)) (g .at + 1) (g .at) 0 (g .behind .now) (c .before .before .before .before .if1 .left) (rw (c .if4 .taken) raw-place))
 
-judge-token-requires : tie.Need-judge-token-requires
-judge-token-requires c κs = search needs
-
-take-typed-requires : tie.Need-take-typed-requires
-take-typed-requires c κs = search needs
-
 returns-5 : tie.Need-returns-5
 returns-5 c =
     let g = c .before .before .before .before .before .before .before .before .args in
@@ -65,17 +38,17 @@ pub take-operand-spec : {M : Type 1} → statement M
 take-operand-spec =
     tie.close
     (tie.spec
-    refused-requires
+    (λ c κs. search needs)
     returns
-    mul-token
-    shared-slice-read-token
-    judge-source-requires
-    take-free-requires
+    (λ c. search needs)
+    (λ c. search needs)
+    (λ c κs. search needs)
+    (λ c κs. search needs)
     returns-2
-    judge-destination-requires
-    take-free-requires-2
+    (λ c κs. search needs)
+    (λ c κs. search needs)
     returns-3
     returns-4
-    judge-token-requires
-    take-typed-requires
+    (λ c κs. search needs)
+    (λ c κs. search needs)
     returns-5)

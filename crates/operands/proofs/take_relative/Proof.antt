@@ -7,22 +7,10 @@ use borrow.Author.Needs.{needs}
 use Rattle.operands.proofs.take_relative.Statement.{statement}
 use Rattle.operands.proofs.take_relative.Tie as tie
 
-refused-requires : tie.Need-refused-requires
-refused-requires c κs = search needs
-
 returns : tie.Need-returns
 returns c =
     let g = c .before .before .before .args in
     rw (relative-none (g .version) (g .at + 1) (g .at) (g .behind .now) (c .before .if1 .taken)) (c .refused .ensures)
-
-mul-judge-relative : tie.Need-mul-judge-relative
-mul-judge-relative c = search needs
-
-shared-slice-read-judge-relative : tie.Need-shared-slice-read-judge-relative
-shared-slice-read-judge-relative c = search needs
-
-judge-relative-requires : tie.Need-judge-relative-requires
-judge-relative-requires c κs = search needs
 
 returns-2 : tie.Need-returns-2
 returns-2 c =
@@ -41,11 +29,11 @@ pub take-relative-spec : {M : Type 1} → statement M
 take-relative-spec =
     tie.close
     (tie.spec
-    refused-requires
+    (λ c κs. search needs)
     returns
-    mul-judge-relative
-    shared-slice-read-judge-relative
-    judge-relative-requires
+    (λ c. search needs)
+    (λ c. search needs)
+    (λ c κs. search needs)
     returns-2
     refused-at-requires
     returns-3)

@@ -6,27 +6,12 @@ use borrow.Author.Needs.{needs}
 use Rattle.reader.proofs.read.Statement.{statement}
 use Rattle.reader.proofs.read.Tie as tie
 
-refused-at-requires : tie.Need-refused-at-requires
-refused-at-requires c κs = search needs
-
 returns : tie.Need-returns
 unfolding reading
 returns c = rw (lt-leb _ _ (c .before .if1 .taken)) (ap toldReading (c .refused-at .ensures))
 
-version-of-requires : tie.Need-version-of-requires
-version-of-requires c κs = search needs
-
-enum-known-named : tie.Need-enum-known-named
-enum-known-named c = search needs
-
-read-at-requires : tie.Need-read-at-requires
-read-at-requires c κs = search needs
-
 enum-told : tie.Need-enum-told
 enum-told c = search needs
-
-refused-at-requires-2 : tie.Need-refused-at-requires-2
-refused-at-requires-2 c κs = search needs
 
 returns-2 : tie.Need-returns-2
 unfolding reading
@@ -44,12 +29,12 @@ pub read-spec : {M : Type 1} → statement M
 read-spec =
     tie.close
     (tie.spec
-    refused-at-requires
+    (λ c κs. search needs)
     returns
-    version-of-requires
-    enum-known-named
-    read-at-requires
+    (λ c κs. search needs)
+    (λ c. search needs)
+    (λ c κs. search needs)
     enum-told
-    refused-at-requires-2
+    (λ c κs. search needs)
     returns-2
     returns-3)

@@ -4,9 +4,6 @@ use Rattle.places.proofs.PlaceKinds.{predicate-by}
 use Rattle.records.proofs.count_with.Statement.{statement}
 use Rattle.records.proofs.count_with.Tie as tie
 
-add-result : tie.Need-add-result
-add-result c = search needs
-
 returns : tie.Need-returns
 returns c = rw (predicate-by (c .before .args .place), eq-eqb _ _ (c .if1 .taken))
 
@@ -14,4 +11,4 @@ returns-2 : tie.Need-returns-2
 returns-2 c = rw (predicate-by (c .before .args .place), ne-eqb _ _ (c .if1 .left))
 
 pub count-with-spec : {M : Type 1} → statement M
-count-with-spec = tie.close (tie.spec add-result returns returns-2)
+count-with-spec = tie.close (tie.spec (λ c. search needs) returns returns-2)

@@ -4,21 +4,9 @@ use borrow.Author.Needs.{needs}
 use Rattle.records.proofs.operand_of.Statement.{statement}
 use Rattle.records.proofs.operand_of.Tie as tie
 
-is-raw-requires : tie.Need-is-raw-requires
-is-raw-requires c κs = search needs
-
-raw-operand-requires : tie.Need-raw-operand-requires
-raw-operand-requires c κs = search needs
-
 returns : tie.Need-returns
 unfolding operandOf
 returns c = c .raw-operand .ensures ∙ rw (sym (c .before .before .is-raw .ensures) ∙ c .before .if1 .taken)
-
-is-destination-requires : tie.Need-is-destination-requires
-is-destination-requires c κs = search needs
-
-destination-operand-requires : tie.Need-destination-operand-requires
-destination-operand-requires c κs = search needs
 
 returns-2 : tie.Need-returns-2
 unfolding operandOf
@@ -28,9 +16,6 @@ returns-2 c =
       sym (c .before .before .before .before .is-raw .ensures) ∙ c .before .before .before .if1 .left,
       sym (c .before .before .is-destination .ensures) ∙ c .before .if2 .taken,
     )
-
-source-operand-requires : tie.Need-source-operand-requires
-source-operand-requires c κs = search needs
 
 returns-3 : tie.Need-returns-3
 unfolding operandOf
@@ -45,11 +30,11 @@ pub operand-of-spec : {M : Type 1} → statement M
 operand-of-spec =
     tie.close
     (tie.spec
-    is-raw-requires
-    raw-operand-requires
+    (λ c κs. search needs)
+    (λ c κs. search needs)
     returns
-    is-destination-requires
-    destination-operand-requires
+    (λ c κs. search needs)
+    (λ c κs. search needs)
     returns-2
-    source-operand-requires
+    (λ c κs. search needs)
     returns-3)

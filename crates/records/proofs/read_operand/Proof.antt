@@ -7,42 +7,18 @@ use borrow.Author.Needs.{needs}
 use Rattle.records.proofs.read_operand.Statement.{statement}
 use Rattle.records.proofs.read_operand.Tie as tie
 
-mul-token : tie.Need-mul-token
-mul-token c = search needs
-
 shared-slice-read-token : tie.Need-shared-slice-read-token
 shared-slice-read-token c = let g = c .before .before .args in omega (arith, width-some (placeBy (g .place)) (drop (g .at) (g .behind .now)))
-
-brings-relative-requires : tie.Need-brings-relative-requires
-brings-relative-requires c κs = search needs
-
-add-operand-of : tie.Need-add-operand-of
-add-operand-of c = search needs
-
-mul-operand-of : tie.Need-mul-operand-of
-mul-operand-of c = search needs
 
 shared-slice-read-operand-of : tie.Need-shared-slice-read-operand-of
 shared-slice-read-operand-of c = let g = c .before .before .before .before .before .args in
     let two = width-two (placeBy (g .place)) (g .at) (g .behind .now) (sym (c .before .before .brings-relative .ensures) ∙ c .before .if1 .taken) in
     omega arith
 
-operand-of-requires : tie.Need-operand-of-requires
-operand-of-requires c κs = search needs
-
-add-t11 : tie.Need-add-t11
-add-t11 c = search needs
-
 returns : tie.Need-returns
 returns c = let g = c .before .before .before .before .before .before .args in
     let brings = sym (c .before .before .before .brings-relative .ensures) ∙ c .before .before .if1 .taken in
     (c .operand-of .ensures ∙ sym (operand-two (placeBy (g .place)) (g .at) (g .behind .now) brings), rw (width-two (placeBy (g .place)) (g .at) (g .behind .now) brings))
-
-operand-of-requires-2 : tie.Need-operand-of-requires-2
-operand-of-requires-2 c κs = search needs
-
-add-t7 : tie.Need-add-t7
-add-t7 c = search needs
 
 returns-2 : tie.Need-returns-2
 returns-2 c = let g = c .before .before .before .before .before .args in
@@ -53,15 +29,15 @@ pub read-operand-spec : {M : Type 1} → statement M
 read-operand-spec =
     tie.close
     (tie.spec
-    mul-token
+    (λ c. search needs)
     shared-slice-read-token
-    brings-relative-requires
-    add-operand-of
-    mul-operand-of
+    (λ c κs. search needs)
+    (λ c. search needs)
+    (λ c. search needs)
     shared-slice-read-operand-of
-    operand-of-requires
-    add-t11
+    (λ c κs. search needs)
+    (λ c. search needs)
     returns
-    operand-of-requires-2
-    add-t7
+    (λ c κs. search needs)
+    (λ c. search needs)
     returns-2)

@@ -20,9 +20,6 @@ Inv-loop places behind operands₀ left₀ at₀ held₀ operands left at held =
 abbrev μ-loop : tie.MeasureT-loop
 μ-loop places behind operands₀ left₀ at₀ held₀ operands left at held = left
 
-raw-operand-requires : tie.Need-raw-operand-requires Inv-loop μ-loop
-raw-operand-requires c κs = search needs
-
 loop-holds : tie.Need-loop-holds Inv-loop μ-loop
 loop-holds c =
     let g = c .before .before .args in
@@ -39,9 +36,6 @@ read-operand-requires c κs =
     let l = c .before .loop in
     let width = width-first (l .left) (omega arith) (c .loop-test .taken) (l .at) (g .behind .now) in
     omega arith
-
-slot-of-requires : tie.Need-slot-of-requires Inv-loop μ-loop
-slot-of-requires c κs = search needs
 
 mul-operands : tie.Need-mul-operands Inv-loop μ-loop
 mul-operands c =
@@ -87,10 +81,10 @@ read-operands-spec =
     (tie.spec
     Inv-loop
     μ-loop
-    raw-operand-requires
+    (λ c κs. search needs)
     loop-holds
     read-operand-requires
-    slot-of-requires
+    (λ c κs. search needs)
     mul-operands
     array-set-from-operands
     count-with-requires

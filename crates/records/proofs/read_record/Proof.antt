@@ -14,29 +14,11 @@ row a =
     a .places-of .ensures
     ∙ ap (λ s. placesBy s (g .first)) (a .before .shape-of .ensures ∙ ap (shapeOf (g .version)) (a .before .before .opcode-of .ensures))
 
-comment-length-requires : tie.Need-comment-length-requires
-comment-length-requires c κs = search needs
-
-empty-record-requires : tie.Need-empty-record-requires
-empty-record-requires c κs = search needs
-
 returns : tie.Need-returns
 returns c = rw (eq-eqb _ _ (c .before .before .if1 .taken), ← (c .before .comment-length .ensures)) (c .empty-record .ensures)
 
-empty-record-requires-2 : tie.Need-empty-record-requires-2
-empty-record-requires-2 c κs = search needs
-
 returns-2 : tie.Need-returns-2
 returns-2 c = rw (ne-eqb _ _ (c .before .before .if1 .left), eq-eqb _ _ (c .before .if2 .taken)) (c .empty-record2 .ensures)
-
-opcode-of-requires : tie.Need-opcode-of-requires
-opcode-of-requires c κs = search needs
-
-shape-of-requires : tie.Need-shape-of-requires
-shape-of-requires c κs = search needs
-
-places-of-requires : tie.Need-places-of-requires
-places-of-requires c κs = search needs
 
 instruction-record-requires : tie.Need-instruction-record-requires
 instruction-record-requires c κs =
@@ -52,13 +34,13 @@ pub read-record-spec : {M : Type 1} → statement M
 read-record-spec =
     tie.close
     (tie.spec
-    comment-length-requires
-    empty-record-requires
+    (λ c κs. search needs)
+    (λ c κs. search needs)
     returns
-    empty-record-requires-2
+    (λ c κs. search needs)
     returns-2
-    opcode-of-requires
-    shape-of-requires
-    places-of-requires
+    (λ c κs. search needs)
+    (λ c κs. search needs)
+    (λ c κs. search needs)
     instruction-record-requires
     returns-3)

@@ -6,21 +6,9 @@ use Rattle.santubeli.proofs.edit_answer_of.Lts as lts
 use Rattle.paper.proofs.number_of.Reads as number-of-reads
 
 -- src/lib.rt:106:24
-enum-known-edited : tie.Need-enum-known-edited
-enum-known-edited c = search needs
-
 -- src/lib.rt:112:26
-enum-known-edited-2 : tie.Need-enum-known-edited-2
-enum-known-edited-2 c = search needs
-
 -- src/lib.rt:118:25
-enum-known-edited-3 : tie.Need-enum-known-edited-3
-enum-known-edited-3 c = search needs
-
 -- src/lib.rt:121:25
-number-of-requires : tie.Need-number-of-requires
-number-of-requires c κs = search needs
-
 -- src/lib.rt:102:1
 returns : tie.Need-returns
 returns c = simp (c .before .edited .given .1)
@@ -37,10 +25,10 @@ pub edit-answer-of-spec : {M : Type 1} → statement M
 edit-answer-of-spec =
     tie.close
     (tie.spec
-    enum-known-edited
-    enum-known-edited-2
-    enum-known-edited-3
-    number-of-requires
+    (λ c. search needs)
+    (λ c. search needs)
+    (λ c. search needs)
+    (λ c κs. search needs)
     returns
     returns-2
     returns-3)

@@ -8,12 +8,6 @@ use borrow.Author.Needs.{needs}
 use Rattle.santubeli.proofs.santubeli_check.Statement.{statement}
 use Rattle.santubeli.proofs.santubeli_check.Tie as tie
 
-check-bytes-requires : tie.Need-check-bytes-requires
-check-bytes-requires c κs = search needs
-
-answer-of-requires : tie.Need-answer-of-requires
-answer-of-requires c κs = search needs
-
 returns : tie.Need-returns
 returns c =
     let g = c .before .before .before .args in
@@ -21,4 +15,4 @@ returns c =
     ∙ ap (answerOf (length (g .bytes .now) / 4)) (same-verdict (c .before .check-bytes .result) (bytesVerdict (g .bytes .now)) (c .before .check-bytes .ensures))
 
 pub santubeli-check-spec : {M : Type 1} → statement M
-santubeli-check-spec = tie.close (tie.spec check-bytes-requires answer-of-requires returns)
+santubeli-check-spec = tie.close (tie.spec (λ c κs. search needs) (λ c κs. search needs) returns)

@@ -7,12 +7,6 @@ use borrow.Author.Needs.{needs}
 use Rattle.santubeli.proofs.santubeli_check_tokens.Statement.{statement}
 use Rattle.santubeli.proofs.santubeli_check_tokens.Tie as tie
 
-check-requires : tie.Need-check-requires
-check-requires c κs = search needs
-
-answer-of-requires : tie.Need-answer-of-requires
-answer-of-requires c κs = search needs
-
 returns : tie.Need-returns
 returns c =
     let g = c .before .before .before .args in
@@ -20,4 +14,4 @@ returns c =
     ∙ ap (answerOf (length (g .tokens .now))) (same-verdict (c .before .check .result) (verdict (g .tokens .now)) (c .before .check .ensures))
 
 pub santubeli-check-tokens-spec : {M : Type 1} → statement M
-santubeli-check-tokens-spec = tie.close (tie.spec check-requires answer-of-requires returns)
+santubeli-check-tokens-spec = tie.close (tie.spec (λ c κs. search needs) (λ c κs. search needs) returns)

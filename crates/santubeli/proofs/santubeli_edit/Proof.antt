@@ -11,17 +11,8 @@ use Rattle.editor.proofs.edit.Reads as edit-reads
 use Rattle.santubeli.proofs.edit_answer_of.Reads as edit-answer-of-reads
 
 -- src/lib.rt:135:9
-edit-requires : tie.Need-edit-requires
-edit-requires c κs = search needs
-
 -- src/lib.rt:136:5
-edit-answer-of-requires : tie.Need-edit-answer-of-requires
-edit-answer-of-requires c κs = search needs
-
 -- src/lib.rt:130:1
-same-length : tie.Need-same-length
-same-length c = search needs
-
 -- src/lib.rt:130:1
 returns : tie.Need-returns
 returns c =
@@ -34,4 +25,4 @@ returns c =
 
 pub santubeli-edit-spec : {M : Type 1} → statement M
 santubeli-edit-spec =
-    tie.close (tie.spec edit-requires edit-answer-of-requires same-length returns)
+    tie.close (tie.spec (λ c κs. search needs) (λ c κs. search needs) (λ c. search needs) returns)

@@ -3,18 +3,6 @@ use borrow.Author.Needs.{needs}
 use Rattle.santubeli.proofs.santubeli_read.Statement.{statement}
 use Rattle.santubeli.proofs.santubeli_read.Tie as tie
 
-read-requires : tie.Need-read-requires
-read-requires c κs = search needs
-
-enum-known-answer : tie.Need-enum-known-answer
-enum-known-answer c = search needs
-
-enum-known-answer-2 : tie.Need-enum-known-answer-2
-enum-known-answer-2 c = search needs
-
-number-of-requires : tie.Need-number-of-requires
-number-of-requires c κs = search needs
-
 returns : tie.Need-returns
 returns c = rw (← (told-one _ _ (c .before .before .before .before .read .ensures)), c .before .answer .given .1)
 
@@ -25,9 +13,9 @@ pub santubeli-read-spec : {M : Type 1} → statement M
 santubeli-read-spec =
     tie.close
     (tie.spec
-    read-requires
-    enum-known-answer
-    enum-known-answer-2
-    number-of-requires
+    (λ c κs. search needs)
+    (λ c. search needs)
+    (λ c. search needs)
+    (λ c κs. search needs)
     returns
     returns-2)

@@ -2,15 +2,6 @@ use borrow.Author.Needs.{needs}
 use Rattle.santubeli.proofs.write_answer_of.Statement.{statement}
 use Rattle.santubeli.proofs.write_answer_of.Tie as tie
 
-enum-known-written : tie.Need-enum-known-written
-enum-known-written c = search needs
-
-enum-known-written-2 : tie.Need-enum-known-written-2
-enum-known-written-2 c = search needs
-
-number-of-requires : tie.Need-number-of-requires
-number-of-requires c κs = search needs
-
 returns : tie.Need-returns
 returns c = simp (c .before .written .given .1)
 
@@ -20,4 +11,4 @@ returns-2 c = simp (c .number-of .ensures, c .before .before .written2 .given .1
 pub write-answer-of-spec : {M : Type 1} → statement M
 write-answer-of-spec =
     tie.close
-    (tie.spec enum-known-written enum-known-written-2 number-of-requires returns returns-2)
+    (tie.spec (λ c. search needs) (λ c. search needs) (λ c κs. search needs) returns returns-2)

@@ -43,45 +43,12 @@ module _ (a : tie.After-is-plain Inv-loop μ-loop) where
 loop-holds : tie.Need-loop-holds Inv-loop μ-loop
 loop-holds c = (here, omega arith)
 
-mul-judge-first : tie.Need-mul-judge-first Inv-loop μ-loop
-mul-judge-first c = search needs
-
-shared-slice-read-judge-first : tie.Need-shared-slice-read-judge-first Inv-loop μ-loop
-shared-slice-read-judge-first c = search needs
-
-add-judge-first : tie.Need-add-judge-first Inv-loop μ-loop
-add-judge-first c = search needs
-
-mul-judge-first-2 : tie.Need-mul-judge-first-2 Inv-loop μ-loop
-mul-judge-first-2 c = search needs
-
-sub-judge-first : tie.Need-sub-judge-first Inv-loop μ-loop
-sub-judge-first c = search needs
-
-part-judge-first-start : tie.Need-part-judge-first-start Inv-loop μ-loop
-part-judge-first-start c = search needs
-
-part-judge-first-end : tie.Need-part-judge-first-end Inv-loop μ-loop
-part-judge-first-end c = search needs
-
-judge-first-requires : tie.Need-judge-first-requires Inv-loop μ-loop
-judge-first-requires c κs = search needs
-
-is-plain-requires : tie.Need-is-plain-requires Inv-loop μ-loop
-is-plain-requires c κs = search needs
-
 returns : tie.Need-returns Inv-loop μ-loop
 returns c =
     let a = c .before in
     let g = start a .args in
     let l = at-loop a .loop in
     turn-last (g .version) (g .tokens .now) (g .beyond) (g .stop) (g .from) (l .at) (l .count) (told a) (l .inv .0) (a .before .before .before .before .loop-test .taken) (a .before .judge-first .ensures) (sym (a .is-plain .ensures) ∙ not-true _ (c .if1 .taken))
-
-add-next : tie.Need-add-next Inv-loop μ-loop
-add-next c = search needs
-
-size-of-requires : tie.Need-size-of-requires Inv-loop μ-loop
-size-of-requires c κs = search needs
 
 add-next-2 : tie.Need-add-next-2 Inv-loop μ-loop
 add-next-2 c = omega (arith, c .size-of .ensures, inside (c .before .before) (not-false _ (c .before .if1 .left)))
@@ -110,9 +77,6 @@ loop-again c =
     let size = c .before .size-of .ensures in
     (rw size (on (c .before .before .before) (not-false _ (c .before .before .if1 .left)) (omega (arith, size, c .if2 .left))), omega (arith, at-loop (c .before .before .before) .loop .inv .1))
 
-refused-first-requires : tie.Need-refused-first-requires Inv-loop μ-loop
-refused-first-requires c κs = search needs
-
 returns-3 : tie.Need-returns-3 Inv-loop μ-loop
 returns-3 c =
     let l = c .before .before .loop in
@@ -130,22 +94,22 @@ judge-stretch-spec =
     Inv-loop
     μ-loop
     loop-holds
-    mul-judge-first
-    shared-slice-read-judge-first
-    add-judge-first
-    mul-judge-first-2
-    sub-judge-first
-    part-judge-first-start
-    part-judge-first-end
-    judge-first-requires
-    is-plain-requires
+    (λ c. search needs)
+    (λ c. search needs)
+    (λ c. search needs)
+    (λ c. search needs)
+    (λ c. search needs)
+    (λ c. search needs)
+    (λ c. search needs)
+    (λ c κs. search needs)
+    (λ c κs. search needs)
     returns
-    add-next
-    size-of-requires
+    (λ c. search needs)
+    (λ c κs. search needs)
     add-next-2
     returns-2
     add-count
     loop-less
     loop-again
-    refused-first-requires
+    (λ c κs. search needs)
     returns-3)

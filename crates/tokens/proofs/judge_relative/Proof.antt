@@ -4,15 +4,6 @@ use borrow.Author.Needs.{needs}
 use Rattle.tokens.proofs.judge_relative.Statement.{statement}
 use Rattle.tokens.proofs.judge_relative.Tie as tie
 
-relative-laid-requires : tie.Need-relative-laid-requires
-relative-laid-requires c κs = search needs
-
-relative-typed-requires : tie.Need-relative-typed-requires
-relative-typed-requires c κs = search needs
-
-told-typed-requires : tie.Need-told-typed-requires
-told-typed-requires c κs = search needs
-
 returns : tie.Need-returns
 unfolding tokenAt
 returns c =
@@ -27,8 +18,8 @@ pub judge-relative-spec : {M : Type 1} → statement M
 judge-relative-spec =
     tie.close
     (tie.spec
-    relative-laid-requires
-    relative-typed-requires
-    told-typed-requires
+    (λ c κs. search needs)
+    (λ c κs. search needs)
+    (λ c κs. search needs)
     returns
     returns-2)

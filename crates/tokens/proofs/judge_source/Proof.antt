@@ -6,27 +6,9 @@ use borrow.Author.Needs.{needs}
 use Rattle.tokens.proofs.judge_source.Statement.{statement}
 use Rattle.tokens.proofs.judge_source.Tie as tie
 
-plain-source-requires : tie.Need-plain-source-requires
-plain-source-requires c κs = search needs
-
-free-source-types-requires : tie.Need-free-source-types-requires
-free-source-types-requires c κs = search needs
-
-told-by-type-requires : tie.Need-told-by-type-requires
-told-by-type-requires c κs = search needs
-
 returns : tie.Need-returns
 unfolding tokenAt
 returns c = rw (c .told-by-type .ensures, c .before .free-source-types .ensures, source-types _ _, plain-source-laid _ _ (sym (c .before .before .before .plain-source .ensures) ∙ c .before .before .if1 .taken))
-
-free-source-laid-requires : tie.Need-free-source-laid-requires
-free-source-laid-requires c κs = search needs
-
-free-source-types-requires-2 : tie.Need-free-source-types-requires-2
-free-source-types-requires-2 c κs = search needs
-
-told-by-type-requires-2 : tie.Need-told-by-type-requires-2
-told-by-type-requires-2 c κs = search needs
 
 returns-2 : tie.Need-returns-2
 unfolding tokenAt
@@ -40,12 +22,12 @@ pub judge-source-spec : {M : Type 1} → statement M
 judge-source-spec =
     tie.close
     (tie.spec
-    plain-source-requires
-    free-source-types-requires
-    told-by-type-requires
+    (λ c κs. search needs)
+    (λ c κs. search needs)
+    (λ c κs. search needs)
     returns
-    free-source-laid-requires
-    free-source-types-requires-2
-    told-by-type-requires-2
+    (λ c κs. search needs)
+    (λ c κs. search needs)
+    (λ c κs. search needs)
     returns-2
     returns-3)

@@ -9,20 +9,11 @@ use Rattle.tokens.proofs.TokenAt.{raw-good}
 use Rattle.tokens.proofs.judge_token.Statement.{statement}
 use Rattle.tokens.proofs.judge_token.Tie as tie
 
-judge-source-requires : tie.Need-judge-source-requires
-judge-source-requires c κs = search needs
-
 returns : tie.Need-returns
 returns c = rw (c .before .if1 .taken, free-source-place) (c .judge-source .ensures)
 
-judge-destination-requires : tie.Need-judge-destination-requires
-judge-destination-requires c κs = search needs
-
 returns-2 : tie.Need-returns-2
 returns-2 c = rw (c .before .if2 .taken, free-destination-place) (c .judge-destination .ensures)
-
-is-raw-requires : tie.Need-is-raw-requires
-is-raw-requires c κs = search needs
 
 returns-3 : tie.Need-returns-3
 returns-3 c =
@@ -42,9 +33,6 @@ typed-at-requires c κs =
       not-free (s .before .before .before .before .args .place) (s .before .before .before .if1 .left) (s .before .before .if2 .left),
     )
 
-told-typed-requires : tie.Need-told-typed-requires
-told-typed-requires c κs = search needs
-
 returns-4 : tie.Need-returns-4
 unfolding tokenAt
 returns-4 c = rw (c .told-typed .ensures, c .before .typed-at .ensures, sym (c .before .before .before .typed-laid .ensures) ∙ c .before .before .if4 .taken)
@@ -57,14 +45,14 @@ pub judge-token-spec : {M : Type 1} → statement M
 judge-token-spec =
     tie.close
     (tie.spec
-    judge-source-requires
+    (λ c κs. search needs)
     returns
-    judge-destination-requires
+    (λ c κs. search needs)
     returns-2
-    is-raw-requires
+    (λ c κs. search needs)
     returns-3
     typed-laid-requires
     typed-at-requires
-    told-typed-requires
+    (λ c κs. search needs)
     returns-4
     returns-5)

@@ -11,15 +11,6 @@ use Rattle.tokens.proofs.TokenAt.{one-bit}
 use Rattle.tokens.proofs.one_typed.Statement.{statement}
 use Rattle.tokens.proofs.one_typed.Tie as tie
 
-only-type-requires : tie.Need-only-type-requires
-only-type-requires c κs = search needs
-
-shl-type-in : tie.Need-shl-type-in
-shl-type-in c = search needs
-
-type-in-requires : tie.Need-type-in-requires
-type-in-requires c κs = search needs
-
 returns : tie.Need-returns
 returns c =
     let g = c .before .before .args in
@@ -29,4 +20,4 @@ returns c =
     (one-among (onlyType (g .place)) (typeOf (g .token)) small (type-small (g .token)))
 
 pub one-typed-spec : {M : Type 1} → statement M
-one-typed-spec = tie.close (tie.spec only-type-requires shl-type-in type-in-requires returns)
+one-typed-spec = tie.close (tie.spec (λ c κs. search needs) (λ c. search needs) (λ c κs. search needs) returns)

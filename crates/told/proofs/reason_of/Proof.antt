@@ -4,11 +4,8 @@ use borrow.Author.Needs.{needs}
 use Rattle.told.proofs.reason_of.Statement.{statement}
 use Rattle.told.proofs.reason_of.Tie as tie
 
-reason-by-requires : tie.Need-reason-by-requires
-reason-by-requires c κs = search needs
-
 returns : tie.Need-returns
 returns c = ap numberOf (c .reason-by .ensures)
 
 pub reason-of-spec : {M : Type 1} → statement M
-reason-of-spec = tie.close (tie.spec reason-by-requires returns)
+reason-of-spec = tie.close (tie.spec (λ c κs. search needs) returns)

@@ -4,12 +4,6 @@ use Rattle.versions.proofs.Types.{relative-type}
 use Rattle.versions.proofs.relative_typed.Statement.{statement}
 use Rattle.versions.proofs.relative_typed.Tie as tie
 
-type-of-requires : tie.Need-type-of-requires
-type-of-requires c κs = search needs
-
-has-addresses-requires : tie.Need-has-addresses-requires
-has-addresses-requires c κs = search needs
-
 returns : tie.Need-returns
 returns c =
     rw (relative-type _ _, ← (c .before .before .type-of .ensures .0), eq-eqb _ _ (c .before .if1 .taken)) (c .has-addresses .ensures)
@@ -18,4 +12,4 @@ returns-2 : tie.Need-returns-2
 returns-2 c = rw (relative-type _ _, ← (c .before .type-of .ensures .0), ne-eqb _ _ (c .if1 .left))
 
 pub relative-typed-spec : {M : Type 1} → statement M
-relative-typed-spec = tie.close (tie.spec type-of-requires has-addresses-requires returns returns-2)
+relative-typed-spec = tie.close (tie.spec (λ c κs. search needs) (λ c κs. search needs) returns returns-2)

@@ -3,15 +3,9 @@ use borrow.Author.Needs.{needs}
 use Rattle.versions.proofs.type_in.Statement.{statement}
 use Rattle.versions.proofs.type_in.Tie as tie
 
-type-of-requires : tie.Need-type-of-requires
-type-of-requires c κs = search needs
-
-shr-result : tie.Need-shr-result
-shr-result c = search needs
-
 returns : tie.Need-returns
 unfolding holds
 returns c = rw (c .type-of .ensures .0)
 
 pub type-in-spec : {M : Type 1} → statement M
-type-in-spec = tie.close (tie.spec type-of-requires shr-result returns)
+type-in-spec = tie.close (tie.spec (λ c κs. search needs) (λ c. search needs) returns)

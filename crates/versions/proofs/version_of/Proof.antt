@@ -5,11 +5,8 @@ use Rattle.versions.proofs.Names.{names-named}
 use Rattle.versions.proofs.version_of.Statement.{statement}
 use Rattle.versions.proofs.version_of.Tie as tie
 
-found-by-requires : tie.Need-found-by-requires
-found-by-requires c κs = search needs
-
 returns : tie.Need-returns
 returns c = ap toldNamed (names-named (c .found-by .result) (c .before .args .token) (c .found-by .ensures))
 
 pub version-of-spec : {M : Type 1} → statement M
-version-of-spec = tie.close (tie.spec found-by-requires returns)
+version-of-spec = tie.close (tie.spec (λ c κs. search needs) returns)
