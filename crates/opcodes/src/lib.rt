@@ -119,8 +119,8 @@ pub fn rule_in(shape: u64) -> u64
     shape / rows::RULE % (rows::LISTED / rows::RULE)
 }
 
-pub fn class_in(shape: u64) -> u32
+pub fn class_in(shape: u64) -> u64
     ensures { λ r. ⌜ r ≡ classIn shape ⌝ }
 {
-    (shape / rows::CLASS) as u32
+    shape / rows::CLASS
 }

@@ -214,7 +214,7 @@ pub fn no_record() -> Record
 }
 
 // The record of an instruction of a class, from its first token and the tokens that it takes behind it.
-pub fn read_record(version: Version, class: u32, first: u32, behind: &[u32]) -> Record
+pub fn read_record(version: Version, class: u64, first: u32, behind: &[u32]) -> Record
     requires { ⌜ Readable (rowBy class version first) (now behind) ⌝ }
     ensures { λ r. ⌜ r ≡ recordBy class version first (now (behind .entry)) ⌝ }
 {

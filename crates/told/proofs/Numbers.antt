@@ -1,7 +1,8 @@
 -- What a number of specs/Numbered.antt tells, told back.
 use mathlib.Core.Path.{_≡_, refl, ap}
 use mathlib.Core.Bool.{true, false}
-use Prim.Native.Nat.{ℕ, _+_, _*_, _/_, _%_}
+use Prim.Native.Nat.{ℕ, _+_, _*_, _/_, _%_, _^_, _<_}
+use native.Mathlib.Nat.{mod-eq-of-lt}
 use native.Mathlib.Omega.{arith}
 use borrow.Author.Tests.{eqb-true, eqb-false}
 use Rattle.paper.specs.Numbers.{numberOf, reasonBy}
@@ -18,7 +19,7 @@ use Rattle.paper.specs.declared.Judged.{Judged}
 use Rattle.paper.specs.declared.Judged.the-variants.{Good, Refused}
 use Rattle.opcodes.specs.Classes.{classNumber}
 use Rattle.opcodes.proofs.Shapes.{class-few}
-use Rattle.told.specs.Numbered.{refusalNumber, judgedNumber, takenNumber, isRefusal, takenIn, sizeIn, kindIn, classBy, judgedFrom}
+use Rattle.told.specs.Numbered.{yesNumber, refusalNumber, judgedNumber, takenNumber, isRefusal, takenIn, sizeIn, kindIn, classBy, judgedFrom}
 
 class-back : (c : Class) → classBy (classNumber c) ≡ c
 class-back (One Comment) = refl
@@ -39,6 +40,9 @@ class-back (Closes End) = refl
 module _ (size : ℕ) (class : Class) where
   pub yes-even : isRefusal (judgedNumber (Good size class)) ≡ false
   yes-even = let even : (32 * size + 2 * classNumber class) % 2 ≡ 0 = omega arith in rw even
+
+  pub yes-fits : size < 2 ^ 32 → yesNumber size (classNumber class) % 2 ^ 64 ≡ yesNumber size (classNumber class)
+  yes-fits h = mod-eq-of-lt (omega (arith, class-few class))
 
   pub yes-size : sizeIn (judgedNumber (Good size class)) ≡ size
   yes-size = let few = class-few class in omega arith

@@ -1,5 +1,6 @@
 // What is told of an instruction and of its operands, one number, made and read back: a yes is even, a refusal odd. No other crate knows what its bits are.
 ghost use mathlib.Core.Path.{_≡_};
+ghost use Prim.Native.Nat.{_%_, _^_};
 ghost use Rattle.paper.specs.Numbers.{numberOf, reasonBy, refusal, toldInstruction};
 ghost use Rattle.told.specs.Numbered.{yesNumber, faultNumber, refusalNumber, isRefusal, takenIn, sizeIn, kindIn, isPlain, classBy, judgedFrom};
 use paper::Class;
@@ -28,15 +29,16 @@ pub const ONE_TAKEN: u64 = HALF;
 pub const TWO_TAKEN: u64 = 2 * HALF;
 
 // The classes of a comment and of END, which no row of the table has.
-pub const COMMENT: u32 = 0;
+pub const COMMENT: u64 = 0;
 
-pub const END: u32 = 12;
+pub const END: u64 = 12;
 
-// A yes: so many tokens behind the first, and the number of a class.
-pub fn yes(size: u32, class: u32) -> u64
-    ensures { λ r. ⌜ r ≡ yesNumber size class ⌝ }
+// A yes: so many tokens behind the first, and the number of a class; as 64 bits hold it, if there is no such class.
+pub fn yes(size: u32, class: u64) -> u64
+    ensures { λ r. ⌜ r ≡ yesNumber size class % 2 ^ 64 ⌝ }
 {
-    WHOLE * size as u64 + HALF * class as u64
+    let doubled = std::num::wrapping_add_u64(class, class);
+    std::num::wrapping_add_u64(WHOLE * size as u64, doubled)
 }
 
 // A refusal: the number of its reason, and its position from the first token on.
@@ -81,10 +83,10 @@ pub fn size_of(told: u64) -> usize
 }
 
 // The number of a yes's class.
-pub fn class_of(told: u64) -> u32
+pub fn class_of(told: u64) -> u64
     ensures { λ r. ⌜ r ≡ kindIn told ⌝ }
 {
-    (told / HALF % KINDS) as u32
+    told / HALF % KINDS
 }
 
 fn class_by(number: u64) -> Class

@@ -232,8 +232,11 @@ pub fn relative_typed(version: Version, token: u32) -> bool
     ensures { λ r. ⌜ r ≡ among (typeOf token) (relativeTypes version) ⌝ }
 {
     let kind = type_of(token);
+    if kind == COUNTER {
+        return true;
+    }
     if kind == ADDRESS {
         return has_addresses(version);
     }
-    kind == COUNTER
+    false
 }

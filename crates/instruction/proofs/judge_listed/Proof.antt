@@ -1,3 +1,5 @@
+use Prim.Native.Nat.{_%_, _^_}
+use native.Mathlib.Omega.{arith}
 use mathlib.Core.Path.{sym, ap, _∙_}
 use lib.ListN.{length, take}
 use lib.Seq.{length-take-le}
@@ -6,6 +8,7 @@ use Rattle.paper.specs.InstructionToken.{opcodeOf, statedSize}
 use Rattle.paper.specs.Instruction.{operandsOf}
 use Rattle.paper.specs.Blocks.{classOf}
 use Rattle.told.specs.Numbered.{yesNumber}
+use Rattle.told.proofs.Numbers.{yes-fits}
 use Rattle.instruction.specs.Shown.{placesIn}
 use Rattle.instruction.proofs.Numbers.{operands-number, operands-refused-number}
 use borrow.Author.Needs.{needs}
@@ -26,7 +29,8 @@ returns-2 c =
     let claim = c .before .before .before .before .before .before .claim-of in
     rw (← (claim .ensures), le-leb _ _ (c .before .before .before .before .before .if1 .left))
     (c .yes .ensures
-    ∙ ap (yesNumber (claim .result)) (c .before .class-in .ensures ∙ c .before .before .before .before .before .before .before .before .pre)
+    ∙ ap (λ k. yesNumber (claim .result) k % 2 ^ 64) (c .before .class-in .ensures ∙ c .before .before .before .before .before .before .before .before .pre)
+    ∙ yes-fits (claim .result) (classOf (opcodeOf (g .first))) (rw (claim .ensures) (omega arith))
     ∙ sym (operands-number (operandsOf (g .version) (opcodeOf (g .first)) (placesIn (g .shape) (g .first)) (take (claim .result) (g .behind .now))) _ _ (classOf (opcodeOf (g .first))) (c .before .before .before .judge-claimed .ensures) (c .before .before .if2 .taken)))
 
 returns-3 : tie.Need-returns-3

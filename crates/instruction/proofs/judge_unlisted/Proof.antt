@@ -1,5 +1,10 @@
 use mathlib.Core.Path.{sym, _∙_}
 use borrow.Author.Tests.{eq-eqb, ne-eqb}
+use native.Mathlib.Omega.{arith}
+use Rattle.paper.specs.declared.Single.the-variants.{Comment}
+use Rattle.paper.specs.declared.Closer.the-variants.{End}
+use Rattle.paper.specs.declared.Class.the-variants.{One, Closes}
+use Rattle.told.proofs.Numbers.{yes-fits}
 use Rattle.instruction.specs.Shown.{unlistedIn}
 use borrow.Author.Needs.{needs}
 use Rattle.instruction.proofs.judge_unlisted.Statement.{statement}
@@ -15,7 +20,7 @@ returns c =
       ← (c .before .before .before .comment-length .ensures),
       sym (c .before .before .are-there .ensures) ∙ c .before .if3 .taken,
     )
-    (c .yes .ensures)
+    (c .yes .ensures ∙ yes-fits (c .before .before .before .comment-length .result) (One Comment) (rw (c .before .before .before .comment-length .ensures) (omega arith)))
 
 returns-2 : tie.Need-returns-2
 unfolding unlistedIn
@@ -48,7 +53,7 @@ returns-4 c =
       eq-eqb _ _ (sym (o .ensures) ∙ c .before .before .if4 .taken),
       eq-eqb _ _ (c .before .if5 .taken),
     )
-    (c .yes2 .ensures)
+    (c .yes2 .ensures ∙ yes-fits 0 (Closes End) (omega arith))
 
 returns-5 : tie.Need-returns-5
 unfolding unlistedIn
