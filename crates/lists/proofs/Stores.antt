@@ -1,13 +1,14 @@
 -- Elements stored one after the other from a place on, `sets` of the library: a loop stores the next one behind those that are stored, or
 -- from the last one back the next one before them. What no store reaches is as before.
-use Prim.Native.Nat.{ℕ, suc, _+_, _≤_, _<_}
-use mathlib.Core.Path.{_≡_, refl, sym, _∙_}
-use mathlib.Core.List.{List, [], _∷_, _++_}
+use Prim.Native.Nat.{ℕ, zero, suc, _+_, _-_, _≤_, _<_}
+use mathlib.Core.Path.{_≡_, refl, sym, ap, _∙_}
+use mathlib.Core.List.{List, [], _∷_, _++_, append-nil}
 use native.Mathlib.Nat.{add-zero}
 use native.Mathlib.Numerals.{add-one}
 use native.Mathlib.Omega.{arith}
-use lib.ListN.{length, take, drop, getD, set, length-drop}
+use lib.ListN.{length, take, drop, getD, set, length-drop, drop-of-length-le}
 use lib.Seq.{sets, sets-eq, take-suc, drop-cons, take-all, take-at, length-take-le, set-comm, getD-set-other, getD-take, getD-drop}
+use borrow.Rule.Slice.PartMut.{putMid}
 
 -- a run, and a run behind it
 pub sets-append : (a b l : List ℕ) (i : ℕ) → sets l i (a ++ b) ≡ sets (sets l i a) (i + length a) b
@@ -63,3 +64,19 @@ module _ (xs : List ℕ) (from n : ℕ) (inside : from + n ≤ length xs) where
 pub front-stored : (old source held : List ℕ) (n : ℕ) → n ≤ length old → n ≡ length source → held ≡ sets old 0 source → take n held ≡ source
 front-stored old source held n h sized e =
     rw (e, sets-eq source old 0 (omega arith)) (take-at source (drop (0 + length source) old) n (sym sized))
+
+-- a part from a place on, lent, stored at its front and given back
+cons-sets : (x : ℕ) (xs vs : List ℕ) (i : ℕ) → sets (x ∷ xs) (suc i) vs ≡ x ∷ sets xs i vs
+cons-sets x xs [] i = refl
+cons-sets x xs (v ∷ vs) i = cons-sets x (set xs i v) vs (suc i)
+
+part-stored : (xs vs : List ℕ) (at : ℕ) → at ≤ length xs → take at xs ++ sets (drop at xs) 0 vs ≡ sets xs at vs
+part-stored xs vs zero h = refl
+part-stored [] vs (suc at) h = absurd (omega arith)
+part-stored (x ∷ xs) vs (suc at) h = ap (λ l. x ∷ l) (part-stored xs vs at (omega arith)) ∙ sym (cons-sets x xs vs at)
+
+pub lent-stored : (xs vs last : List ℕ) (at : ℕ) → at ≤ length xs → last ≡ sets (take (length xs - at) (drop at xs)) 0 vs →
+    putMid at (length xs - at) xs last ≡ sets xs at vs
+lent-stored xs vs last at h e =
+    let long : length (drop at xs) ≤ length xs - at = omega (arith, length-drop at xs) in
+    rw (e, take-all (length xs - at) (drop at xs) long, drop-of-length-le (drop at xs) long, append-nil) (part-stored xs vs at h)

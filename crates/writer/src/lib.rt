@@ -267,17 +267,27 @@ fn encode(room: &mut [u32], version: u32, known: Version, instruction: Record, l
     0
 }
 
-// Some tokens, stored from a place of the buffer on.
-fn copy(buffer: &mut [u32], at: usize, tokens: &[u32])
-    requires { ⌜ at + length (now tokens) ≤ length (now buffer) ⌝ }
-    ensures { λ _. ⌜ now (buffer .exit) ≡ sets (now (buffer .entry)) at (now (tokens .entry)) ⌝ }
+// Some tokens at the front of the room.
+fn copy(room: &mut [u32], tokens: &[u32])
+    requires { ⌜ length (now tokens) ≤ length (now room) ⌝ }
+    ensures { λ _. ⌜ now (room .exit) ≡ sets (now (room .entry)) 0 (now (tokens .entry)) ⌝ }
 {
     let mut i = 0;
     while i < tokens.len() {
         let token = tokens[i];
-        buffer[at + i] = token;
+        room[i] = token;
         i += 1;
     }
+}
+
+// Tokens at the front of the room, and those behind them in the remainder, which is lent on.
+fn put(room: &mut [u32], tokens: &[u32], behind: &[u32])
+    requires { ⌜ length (now tokens) + length (now behind) ≤ length (now room) ⌝ }
+    ensures { λ _. ⌜ now (room .exit) ≡ sets (now (room .entry)) 0 (now (tokens .entry) ++ now (behind .entry)) ⌝ }
+{
+    let count = tokens.len();
+    copy(room, tokens);
+    copy(&mut room[count..], behind);
 }
 
 fn fits(count: usize, at: usize, room: usize) -> bool
@@ -298,7 +308,7 @@ fn refused(reason: Reason) -> Written
     })
 }
 
-// Tokens and those behind them, written at a place of the buffer if they fit.
+// Tokens and those behind them, written into the part of the buffer that starts at a place, if they fit.
 fn place(tokens: &[u32], behind: &[u32], buffer: &mut [u32], at: usize) -> Written
     ensures { λ r. ⌜ (r ≡ room (now (tokens .entry) ++ now (behind .entry)) (now (buffer .entry)) at) × (now (buffer .exit) ≡ contentAfter r (now (tokens .entry) ++ now (behind .entry)) (now (buffer .entry)) at) ⌝ }
 {
@@ -306,8 +316,7 @@ fn place(tokens: &[u32], behind: &[u32], buffer: &mut [u32], at: usize) -> Writt
     if !fits(count, at, buffer.len()) {
         return refused(Reason::Room);
     }
-    copy(buffer, at, tokens);
-    copy(buffer, at + tokens.len(), behind);
+    put(&mut buffer[at..], tokens, behind);
     Written::Wrote(at + count)
 }
 

@@ -1,13 +1,12 @@
-use Prim.Native.Nat.{_+_}
+use Prim.Native.Nat.{_+_, _-_}
 use native.Mathlib.Omega.{arith}
-use mathlib.Core.Path.{_≡_, sym, ap, _∙_}
+use mathlib.Core.Path.{_≡_, sym, _∙_}
 use mathlib.Core.Bool.{true}
 use mathlib.Core.List.{_++_}
 use lib.Dec.{leb}
-use lib.ListN.{length, length-append}
-use lib.Seq.{length-sets}
+use lib.ListN.{length, drop, length-append, length-take, length-drop}
 use borrow.Author.Tests.{not-true, not-false, leb-true}
-use Rattle.lists.proofs.Stores.{sets-append}
+use Rattle.lists.proofs.Stores.{lent-stored}
 use Rattle.writer.proofs.Paste.{stored}
 use borrow.Author.Needs.{needs}
 use Rattle.writer.proofs.place.Statement.{statement}
@@ -23,19 +22,18 @@ returns c =
     let none = sym (c .before .before .fits2 .ensures) ∙ not-true (c .before .before .fits2 .result) (c .before .if1 .taken) in
     (rw (length-append (g .tokens .now) (g .behind .now), none) (c .refused .ensures), rw (c .refused .ensures))
 
-copy-requires-2 : tie.Need-copy-requires-2
-copy-requires-2 c κs =
-    let g = c .before .before .before .before .before .before .before .before .before .before .args in
-    omega (arith, fit (c .before .before .before .before .before), leb-true, ap length (c .before .before .before .copy .ensures), length-sets (g .buffer .now) (g .at) (g .tokens .now))
+put-requires : tie.Need-put-requires
+put-requires c κs =
+    let g = c .before .before .before .before .before .before .args in
+    omega (arith, fit (c .before), leb-true, length-take (length (g .buffer .now) - g .at) (drop (g .at) (g .buffer .now)), length-drop (g .at) (g .buffer .now))
 
 returns-2 : tie.Need-returns-2
 returns-2 c =
-    let g = c .before .before .before .before .before .before .before .before .before .before .before .before .before .args in
-    let fits = fit (c .before .before .before .before .before .before .before .before) in
-    let long = length-append (g .tokens .now) (g .behind .now) in
-    let put = rw (c .before .before .before .before .before .before .copy .ensures) at (c .before .before .copy2 .ensures) in (
+    let g = c .before .before .before .before .before .before .before .before .before .args in
+    let fits = fit (c .before .before .before .before) in
+    let long = length-append (g .tokens .now) (g .behind .now) in (
       rw (long, fits),
-      put ∙ sym (sets-append (g .tokens .now) (g .behind .now) (g .buffer .now) (g .at))
+      lent-stored (g .buffer .now) (g .tokens .now ++ g .behind .now) _ (g .at) (omega (arith, fits, leb-true)) (c .before .before .put .ensures)
           ∙ stored (g .buffer .now) (g .tokens .now ++ g .behind .now) (g .at) (omega (arith, long, leb-true)),
     )
 
@@ -47,9 +45,11 @@ place-spec =
     (λ c κs. search needs)
     (λ c κs. search needs)
     returns
-    (λ c κs. omega (arith, fit (c .before), leb-true))
-    (λ c. omega (arith, fit (c .before .before .before .before .before), leb-true))
-    copy-requires-2
-    (λ c. omega (arith, fit (c .before .before .before .before .before .before .before .before), leb-true))
+    (λ c. omega (arith, fit c, leb-true))
+    (λ c. omega (arith, fit c, leb-true))
+    (λ c. omega (arith, fit c, leb-true))
+    (λ c. search needs)
+    put-requires
+    (λ c. omega (arith, fit (c .before .before .before .before), leb-true))
     (λ c. search needs)
     returns-2)
