@@ -14,7 +14,6 @@ use Rattle.paper.specs.declared.Class.the-variants.{One}
 use Rattle.paper.specs.declared.Single.the-variants.{Plain}
 use Rattle.paper.proofs.Bools.{both-left, both-right}
 use Rattle.blocks.specs.Begins.{endsStream}
-use Rattle.blocks.proofs.Derived.{never}
 use Rattle.blocks.proofs.Counting.{counts-add}
 
 module _ (rule : Class → Bool) where

@@ -5,6 +5,7 @@ use mathlib.Core.Bool.{true}
 use mathlib.Core.List.{List, []}
 use native.Mathlib.Nat.{zero-add}
 use native.Mathlib.Omega.{arith}
+use Rattle.paper.proofs.Bools.{never}
 use Rattle.paper.specs.Blocks.{Cut, out, wrong, then}
 use Rattle.paper.specs.Walk.{Kind, Next, go, bad, finish, step, counts, atEnd, onNext, walk}
 use Rattle.paper.specs.Stream.{cutFrom, walked}
@@ -16,7 +17,7 @@ use Rattle.paper.specs.declared.Closer.{Closer}
 use Rattle.paper.specs.declared.Closer.the-variants.{Else, EndIf, EndLoop, EndRep, End}
 use Rattle.blocks.specs.Nesting.{nesting, countOf}
 use Rattle.blocks.specs.Begins.{endsStream}
-use Rattle.blocks.proofs.Derived.{never, is-end}
+use Rattle.blocks.proofs.Derived.{is-end}
 use Rattle.blocks.proofs.Refused.{says}
 
 -- what an instruction adds, it adds before or behind

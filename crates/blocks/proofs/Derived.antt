@@ -5,6 +5,7 @@ use mathlib.Core.Bool.{Bool, true, false}
 use native.Mathlib.Omega.{arith}
 use lib.Dec.{ltb}
 use borrow.Author.Tests.{ltb-true}
+use Rattle.paper.proofs.Bools.{never}
 use Rattle.paper.specs.Notation.{pick}
 use Rattle.paper.specs.Numbers.{refusal}
 use Rattle.paper.specs.Blocks.{Cut, out, wrong, then, mayStand, loopsIn, closerOf, mostOpen, Body, noItem, more, Item, one, block, Block, closed, withElse}
@@ -19,9 +20,6 @@ use Rattle.paper.specs.declared.Single.{Single}
 use Rattle.paper.specs.declared.Reason.the-variants.{Block as BLOCK, Depth as DEPTH}
 use Rattle.blocks.specs.Descent.{BodyEnd, stopped, broken, ItemEnd, passed, closer, refused, onItem, closing, onLast, onFirst, body, item}
 use Rattle.blocks.specs.Descent
-
-pub never : {A : Type 0} → false ≡ true → A
-never e = let z : _≡_ {A = ℕ} 0 1 = cc in absurd (omega arith)
 
 -- a closer is known by its name
 pub is-end : (c : Closer) → isEnd c ≡ true → c ≡ End

@@ -3,6 +3,7 @@ use Prim.Native.Nat.{ℕ}
 use mathlib.Core.Path.{_≡_, refl, ap, sym, _∙_}
 use mathlib.Core.List.{List, [], _∷_}
 use native.Mathlib.Omega.{arith}
+use Rattle.paper.proofs.Bools.{apart}
 use Rattle.paper.specs.Blocks.{Cut, out, wrong, then}
 use Rattle.paper.specs.Walk.{Kind, step, Next, go, bad, finish, onNext, atEnd}
 use Rattle.paper.specs.declared.Class.{Class}
@@ -26,12 +27,12 @@ module _ (c : Class) (p : ℕ) (cs : List Class) (a b : Cut) (ks ls : List Kind)
     (later : (ms : List Kind) → openAfter ms cs ≡ go ls → Reaches a ms b ls) where
   past-first : (x : Next) → step ks c ≡ x → onwards x cs (λ next. openAfter next cs) ≡ go ls → Reaches (then c p a) ks b ls
   past-first (go ms) e h = past e (later ms h)
-  past-first (bad r) e h = let z : _≡_ {A = ℕ} 0 1 = cc in absurd (omega arith)
+  past-first (bad r) e h = apart (cc)
   past-first finish e h = behind-end cs h
     where
       behind-end : (ds : List Class) → onwards finish ds (λ next. openAfter next cs) ≡ go ls → Reaches (then c p a) ks b ls
-      behind-end [] f = let z : _≡_ {A = ℕ} 0 1 = cc in absurd (omega arith)
-      behind-end (d ∷ ds) f = let z : _≡_ {A = ℕ} 0 1 = cc in absurd (omega arith)
+      behind-end [] f = apart (cc)
+      behind-end (d ∷ ds) f = apart (cc)
 
 pub leads-reaches : {cs : List Class} {a b : Cut} → Leads cs a b → (ks ls : List Kind) → openAfter ks cs ≡ go ls → Reaches a ks b ls
 unfolding openAfter

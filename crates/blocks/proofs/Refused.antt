@@ -6,6 +6,7 @@ use mathlib.Core.List.{List, [], _∷_, _++_}
 use native.Mathlib.Omega.{arith}
 use lib.Dec.{ltb}
 use lib.ListN.{length}
+use Rattle.paper.proofs.Bools.{apart}
 use Rattle.paper.specs.Notation.{pick}
 use Rattle.paper.specs.Numbers.{refusal}
 use Rattle.paper.specs.Blocks.{Cut, out, then, mayStand, mostOpen, closerOf}
@@ -116,13 +117,13 @@ module _ (c : Class) (cs ds : List Class) (ks ls : List Kind)
   append-first : (x : Next) → onwards x cs (λ next. openAfter next cs) ≡ go ls →
       onwards x (cs ++ ds) (λ next. openAfter next (cs ++ ds)) ≡ openAfter ls ds
   append-first (go ms) e = later ms e
-  append-first (bad r) e = let z : _≡_ {A = ℕ} 0 1 = cc in absurd (omega arith)
+  append-first (bad r) e = apart (cc)
   append-first finish e = not-behind cs e
     where
       not-behind : (es : List Class) → onwards finish es (λ next. openAfter next cs) ≡ go ls →
           onwards finish (cs ++ ds) (λ next. openAfter next (cs ++ ds)) ≡ openAfter ls ds
-      not-behind [] f = let z : _≡_ {A = ℕ} 0 1 = cc in absurd (omega arith)
-      not-behind (d ∷ es) f = let z : _≡_ {A = ℕ} 0 1 = cc in absurd (omega arith)
+      not-behind [] f = apart (cc)
+      not-behind (d ∷ es) f = apart (cc)
 
 -- the blocks open after a row and a second one
 pub open-append : (cs ds : List Class) (ks ls : List Kind) → openAfter ks cs ≡ go ls → openAfter ks (cs ++ ds) ≡ openAfter ls ds
@@ -180,7 +181,7 @@ begins-none cs reason e b =
     let w : (r : Refusal) × (nesting 0 (b .0) [] ≡ Refused r) = rw e at (comes (b .2) 0 []) in
     let yes-to : nesting 0 (b .0) [] ≡ Accepted 0 = accepts (b .3 .2) 0 in
     let not-both : Refused (w .0) ≡ Accepted 0 = sym (w .1) ∙ yes-to in
-    let z : _≡_ {A = ℕ} 0 1 = cc in absurd (omega arith)
+    apart (cc)
 
 -- a refusal of a step has the class's own reason: DEPTH for an opener, BLOCK for any other
 pub step-reason : (c : Class) (ks : List Kind) (reason : Reason) → step ks c ≡ bad reason → reason ≡ nestingReason c

@@ -7,6 +7,7 @@ use native.Mathlib.Omega.{arith}
 use lib.Dec.{ltb}
 use lib.ListN.{length}
 use borrow.Author.Tests.{lt-ltb}
+use Rattle.paper.proofs.StreamVerdict.{unlike}
 use Rattle.paper.specs.Notation.{pick}
 use Rattle.paper.specs.Numbers.{refusal}
 use Rattle.paper.specs.Blocks.{Cut, out, wrong, then, mayStand, loopsIn, closerOf, mostOpen, Body, noItem, more, Item, one, block, Block, closed, withElse}
@@ -156,9 +157,6 @@ on-stream n (broken r) = refl
 pub descent-is-walk : (n : ℕ) (a : Cut) → descended n a ≡ nesting n a []
 unfolding descended bodyOf
 descent-is-walk n a = on-stream n (body (fuel a) 0 false a) ∙ sym (body-walked (fuel a) n a [] (omega arith))
-
-unlike : {A : Type 0} {r : Refusal} {m : ℕ} → Refused r ≡ Accepted m → A
-unlike e = let z : _≡_ {A = ℕ} 0 1 = cc in absurd (omega arith)
 
 module _ (n m : ℕ) (a : Cut) where
   end-accepted : (p : ℕ) (b : Cut) → Body 0 false a (then (Closes End) p b) → atEnd n b ≡ Accepted m → (m ≡ n) × Lawful a

@@ -17,11 +17,8 @@ use Rattle.blocks.proofs.WalkIsGrammar.{accepts, accepted}
 use Rattle.blocks.specs.Nesting.{countOf}
 use Rattle.blocks.proofs.Counting.{walked-nesting}
 use Rattle.checker.specs.Accepted.{Grammatical}
-use Rattle.paper.proofs.StreamVerdict.{verdict-length, verdict-version, verdict-walked}
+use Rattle.paper.proofs.StreamVerdict.{verdict-length, verdict-version, verdict-walked, unlike}
 use Rattle.paper.proofs.OneToOne.{same-verdict}
-
-unlike : {A : Type 0} {r : Refusal} {n : ℕ} → Refused r ≡ Accepted n → A
-unlike e = let z : _≡_ {A = ℕ} 0 1 = cc in absurd (omega arith)
 
 module _ (stream : List ℕ) (n : ℕ) where
   walked-accepted : (v : Version) → lengthLaid (length stream) ≡ true → named (getD stream 0 0) ≡ Known v → walked v stream ≡ Accepted n →

@@ -7,6 +7,7 @@ use native.Mathlib.Numerals.{add-one}
 use native.Mathlib.Omega.{arith}
 use lib.Dec.{eqb}
 use lib.ListN.{length}
+use Rattle.paper.proofs.Bools.{never}
 use Rattle.paper.specs.Notation.{pick}
 use Rattle.paper.specs.Numbers.{refusal}
 use Rattle.paper.specs.Blocks.{loopsIn, closerOf}
@@ -30,9 +31,6 @@ use Rattle.checker.specs.declared.ItemEnd.{ItemEnd}
 use Rattle.checker.specs.declared.ItemEnd.the-variants.{Passed, Refused}
 use Rattle.checker.specs.Closers.{closerNumber}
 use Rattle.checker.specs.Ends.{bodyEnd, itemEnd, Stops, BodyWithin, BlockWithin, BodyIs, BlockIs, Low, lastEnd}
-
-differ : {A : Type 0} → false ≡ true → A
-differ e = let z : _≡_ {A = ℕ} 0 1 = cc in absurd (omega arith)
 
 else-test : (o : Opener) (c : Closer) → eqb (closerNumber (closerOf o)) 1 && eqb (closerNumber c) 0 ≡ elses c (opened o)
 else-test If Else = refl
@@ -77,12 +75,12 @@ last-if (broken r) = refl
 else-only : (o : Opener) (c : Closer) → elses c (opened o) ≡ true →
     ((n : ℕ) → counts (Closes c) n ≡ suc n) × ((e : Descent.BodyEnd) → onLast (opened o) e ≡ onLast pastElse e)
 else-only If Else e = ((λ n. refl), last-if)
-else-only If EndIf e = differ e
-else-only If EndLoop e = differ e
-else-only If EndRep e = differ e
-else-only If End e = differ e
-else-only Loop c e = differ e
-else-only Rep c e = differ e
+else-only If EndIf e = never e
+else-only If EndLoop e = never e
+else-only If EndRep e = never e
+else-only If End e = never e
+else-only Loop c e = never e
+else-only Rep c e = never e
 
 -- the closer of a block counts
 own-counts : (o : Opener) (c : Closer) → closesOpener c o ≡ true → (n : ℕ) → counts (Closes c) n ≡ suc n
@@ -90,9 +88,9 @@ own-counts o Else e n = refl
 own-counts o EndIf e n = refl
 own-counts o EndLoop e n = refl
 own-counts o EndRep e n = refl
-own-counts If End e n = differ e
-own-counts Loop End e n = differ e
-own-counts Rep End e n = differ e
+own-counts If End e n = never e
+own-counts Loop End e n = never e
+own-counts Rep End e n = never e
 
 module _ (v : Version) (s : List ℕ) (o : Opener) (at : ℕ) where
   either-end : (test : Bool) (p next n : ℕ) →

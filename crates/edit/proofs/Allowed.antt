@@ -25,9 +25,9 @@ use Rattle.edit.specs.declared.Edited.the-variants.{Joined, Accepted}
 use Rattle.edit.specs.Boundaries.{standsWith, standingAt, isBoundary}
 use Rattle.edit.specs.Edit.{splice, newLength, placed, fits, spliced, editRefused, editNamed, edited, editedIn}
 use Rattle.edit.proofs.Standing.{ahead, standing-comes}
-use Rattle.paper.proofs.Bools.{apart}
+use Rattle.paper.proofs.Bools.{apart, both}
 use Rattle.edit.proofs.Prefix.{splice-length}
-use Rattle.edit.proofs.SameBlocks.{both, boundary}
+use Rattle.edit.proofs.SameBlocks.{boundary}
 
 -- neither LENGTH nor VERSION nor PLACE nor ROOM refuses the edit
 pub record Allowed (room : ℕ) (old : List ℕ) (i j : ℕ) (run : List ℕ) (v : Version) : Type 0 where

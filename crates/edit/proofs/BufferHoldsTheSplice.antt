@@ -17,8 +17,7 @@ use Rattle.paper.specs.declared.Verdict.the-variants.{Accepted as yes-verdict, 
 use Rattle.edit.specs.declared.Edited.{Edited}
 use Rattle.edit.specs.declared.Edited.the-variants.{Joined, Accepted, Refused}
 use Rattle.edit.specs.Edit.{splice, newLength, meetsAtEnd, onVerdict, edited, editedIn, heldAfter, bufferAfter}
-use Rattle.paper.proofs.Bools.{apart}
-use Rattle.edit.proofs.SameBlocks.{both}
+use Rattle.paper.proofs.Bools.{apart, both}
 use Rattle.edit.proofs.Allowed.{Allowed, places, joined-allowed, accepted-allowed, joined-held, accepted-held, new-length}
 use Rattle.edit.proofs.JoinedIsTheOldVerdict.{joined-accepted}
 use Rattle.edit.proofs.EditIsACheck.{answered}

@@ -6,11 +6,7 @@ use Rattle.paper.specs.Walk.{Kind, opened, pastElse}
 use Rattle.paper.specs.declared.Opener.{Opener}
 use Rattle.paper.specs.declared.Opener.the-variants.{If, Loop, Rep}
 use Rattle.edit.specs.Boundaries.{Standing, nowhere, standsWith, sameOpener, sameKind, sameBlocks, meets, isBoundary}
-use Rattle.paper.proofs.Bools.{apart}
-
-pub both : (a b : Bool) → a && b ≡ true → (a ≡ true) × (b ≡ true)
-both true b e = (refl, e)
-both false b e = apart (cc)
+use Rattle.paper.proofs.Bools.{apart, both}
 
 same-opener : (o p : Opener) → sameOpener o p ≡ true → o ≡ p
 same-opener If If e = refl

@@ -10,6 +10,7 @@ use lib.Seq.{length-take-le}
 use types.Run.{OneOf}
 use denote.Enum.Declared.{tagOf}
 use borrow.Author.Tests.{le-leb, lt-leb}
+use Rattle.paper.proofs.Bools.{and-false}
 use Rattle.paper.specs.Versions.{named}
 use Rattle.paper.specs.Stream.{mostTokens}
 use Rattle.paper.specs.declared.Version.{Version}
@@ -27,10 +28,6 @@ use Rattle.splicer.specs.Splicing.{withRun, splicedIn}
 use Rattle.splicer.proofs.Answers.{run-taken}
 use Rattle.editor.specs.Found.{Between}
 use Rattle.editor.specs.Answers.{afterPlace, afterVersion}
-
-pub never : (a : Bool) → a && false ≡ false
-never true = refl
-never false = refl
 
 -- PLACE
 module _ (v : Version) (old : List ℕ) where
@@ -55,16 +52,16 @@ module _ (v : Version) (old : List ℕ) where
 
     pub no-second : standingAt v old j ≡ nowhere → afterVersion v room old i j run ≡ editRefused PLACE
     unfolding afterVersion
-    no-second e = rw (e, never)
+    no-second e = rw (e, and-false)
 
     pub crossed : j < i → afterVersion v room old i j run ≡ editRefused PLACE
     unfolding afterVersion
-    crossed h = rw (lt-leb i j h, never, never)
+    crossed h = rw (lt-leb i j h, and-false, and-false)
 
     -- ROOM
     pub too-long : mostTokens < newLength (length old) i j (length run) → afterPlace v room old i j run ≡ editRefused ROOM
     unfolding afterPlace
-    too-long h = rw (lt-leb (newLength (length old) i j (length run)) mostTokens h, never)
+    too-long h = rw (lt-leb (newLength (length old) i j (length run)) mostTokens h, and-false)
 
     pub no-room : room < newLength (length old) i j (length run) → afterPlace v room old i j run ≡ editRefused ROOM
     unfolding afterPlace

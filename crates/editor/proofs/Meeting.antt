@@ -13,9 +13,9 @@ use Rattle.edit.specs.declared.Edited.the-variants.{Joined}
 use Rattle.edit.specs.Boundaries.{nowhere, standsWith, standingAt}
 use Rattle.edit.specs.Edit.{splice, newLength, meetsAtEnd, onVerdict, spliced}
 use Rattle.edit.proofs.Standing.{reached-standing}
-use Rattle.paper.proofs.Bools.{apart}
+use Rattle.paper.proofs.Bools.{apart, and-false, both}
 use Rattle.edit.proofs.Prefix.{splice-length}
-use Rattle.edit.proofs.SameBlocks.{both, met as both-stand, meeting}
+use Rattle.edit.proofs.SameBlocks.{met as both-stand, meeting}
 use Rattle.walk.specs.declared.State.{State}
 use Rattle.walk.specs.declared.Step.{Step}
 use Rattle.walk.specs.Kinds.{kindsNumber}
@@ -24,7 +24,6 @@ use Rattle.walk.specs.Stands.{Stands, stepAt, Comes}
 use Rattle.walk.proofs.OpenBlocks.{number-same}
 use Rattle.walk.proofs.Comes.{goes-not, comes-verdict}
 use Rattle.editor.specs.Found.{Between}
-use Rattle.editor.proofs.Answers.{never}
 use Rattle.editor.proofs.Onward.{none-ahead}
 
 -- two equations, tested together
@@ -114,7 +113,7 @@ module _ (v : Version) (old : List ℕ) (first last : State) (run : List ℕ) wh
         where
           by-order : (x : Bool) → ltb (step .state .at) end ≡ x → (y : Bool) → ltb end (step .state .at) ≡ y → Meets false
           by-order true e y f = nowhere-meets (none-ahead v stream (step .state) h (omega (arith, long)) end (ltb-true (step .state .at) end e) off)
-          by-order false e true f = unmet (rw (le-ltb (step .state .at) (end + 1) (omega (arith, ltb-true end (step .state .at) f))) (never (isOn (step .answer))))
+          by-order false e true f = unmet (rw (le-ltb (step .state .at) (end + 1) (omega (arith, ltb-true end (step .state .at) f))) (and-false (isOn (step .answer))))
           by-order false e false f =
               let here : step .state .at ≡ end = omega (arith, ltb-false (step .state .at) end e, ltb-false end (step .state .at) f) in
               differs-here (step .state) h here (not-both (step .state .at) end (step .state .kinds) (last .kinds) other here)

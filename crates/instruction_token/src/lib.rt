@@ -3,9 +3,6 @@ ghost use mathlib.Core.Path.{_≡_};
 ghost use Rattle.paper.specs.InstructionToken.{opcodeOf, statedSize, commentLaid, commentLength};
 ghost use Rattle.instruction_token.specs.ByShape.{hasZeros, controlsBy, bitsBy, placesBy};
 
-// Behind its first token nothing but a comment claims more than this.
-pub const MOST_CLAIMED: usize = 15;
-
 pub fn opcode_of(token: u32) -> u32
     ensures { λ r. ⌜ r ≡ opcodeOf token ⌝ }
 {

@@ -17,7 +17,7 @@ use Rattle.paper.specs.declared.Version.the-variants.{V3}
 use Rattle.opcodes.specs.Shape.{shapeOf}
 use Rattle.versions.specs.Rows.{rank}
 use Rattle.opcodes.specs.Rows.{firstShape, sincos, shapeFrom, rowOf}
-use Rattle.paper.proofs.Bools.{both-left, both-right}
+use Rattle.paper.proofs.Bools.{both-left, both-right, and-false}
 use Rattle.paper.proofs.VersionTokens.{each}
 use Rattle.paper.specs.Places.{absent, entryIn, entryOf, typedPlaces}
 use Rattle.opcodes.proofs.Computed.{computed}
@@ -35,10 +35,6 @@ not-among opcode [] h t = refl
 not-among opcode (x ∷ xs) h t =
     let less : x < limit = ltb-true x limit (both-left (ltb x limit) (small xs) t) in
     rw (ne-eqb opcode x (λ e. omega arith)) (not-among opcode xs h (both-right (ltb x limit) (small xs) t))
-
-and-false : (b : Bool) → b && false ≡ false
-and-false true = refl
-and-false false = refl
 
 abbrev smallRows : List Row → Bool
 smallRows [] = true

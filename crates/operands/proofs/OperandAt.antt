@@ -9,6 +9,7 @@ use lib.Dec.{eqb}
 use lib.ListN.{length, drop, getD, length-drop, drop-of-length-le}
 use lib.Seq.{drop-cons, drop-drop}
 use borrow.Author.Tests.{eqb-true}
+use Rattle.paper.proofs.Bools.{apart}
 use Rattle.paper.specs.Notation.{bit, pick}
 use Rattle.paper.specs.Numbers.{refusal, toldToken}
 use Rattle.paper.specs.OperandTokens.{isFree, tokenAt, bringsRelative}
@@ -92,40 +93,40 @@ module _ (v : Version) (place : Place) (offset at told : ℕ) (behind : List ℕ
 module _ (v : Version) (place : Place) (offset n : ℕ) where
   relative-fits : (token : Token) (rest : List ℕ) → onToken token (offset + 1) (Took 2) ≡ Took n → n ≤ suc (suc (length rest))
   relative-fits Good rest e = let two : 2 ≡ n = cc in omega arith
-  relative-fits (Bad reason) rest e = let z : _≡_ {A = ℕ} 0 1 = cc in absurd (omega arith)
+  relative-fits (Bad reason) rest e = apart (cc)
 
   brought-fits : (brings : Bool) (rest : List ℕ) → pick brings (relativeToken v (offset + 1) rest) (Took 1) ≡ Took n → n ≤ suc (length rest)
-  brought-fits true [] e = let z : _≡_ {A = ℕ} 0 1 = cc in absurd (omega arith)
+  brought-fits true [] e = apart (cc)
   brought-fits true (token ∷ rest) e = relative-fits (tokenAt v relative token) rest e
   brought-fits false rest e = let one : 1 ≡ n = cc in omega arith
 
   token-fits : (judged : Token) (brings : Bool) (rest : List ℕ) →
       onToken judged offset (pick brings (relativeToken v (offset + 1) rest) (Took 1)) ≡ Took n → n ≤ suc (length rest)
   token-fits Good brings rest e = brought-fits brings rest e
-  token-fits (Bad reason) brings rest e = let z : _≡_ {A = ℕ} 0 1 = cc in absurd (omega arith)
+  token-fits (Bad reason) brings rest e = apart (cc)
 
   operand-fits : (tokens : List ℕ) → operand v place offset tokens ≡ Took n → n ≤ length tokens
   unfolding operand
-  operand-fits [] e = let z : _≡_ {A = ℕ} 0 1 = cc in absurd (omega arith)
+  operand-fits [] e = apart (cc)
   operand-fits (token ∷ rest) e = token-fits (tokenAt v place token) (bringsRelative place token) rest e
 
   relative-few : (token : Token) → onToken token (offset + 1) (Took 2) ≡ Took n → n ≤ 2
   relative-few Good e = let two : 2 ≡ n = cc in omega arith
-  relative-few (Bad reason) e = let z : _≡_ {A = ℕ} 0 1 = cc in absurd (omega arith)
+  relative-few (Bad reason) e = apart (cc)
 
   brought-few : (brings : Bool) (rest : List ℕ) → pick brings (relativeToken v (offset + 1) rest) (Took 1) ≡ Took n → n ≤ 2
-  brought-few true [] e = let z : _≡_ {A = ℕ} 0 1 = cc in absurd (omega arith)
+  brought-few true [] e = apart (cc)
   brought-few true (token ∷ rest) e = relative-few (tokenAt v relative token) e
   brought-few false rest e = let one : 1 ≡ n = cc in omega arith
 
   token-few : (judged : Token) (brings : Bool) (rest : List ℕ) →
       onToken judged offset (pick brings (relativeToken v (offset + 1) rest) (Took 1)) ≡ Took n → n ≤ 2
   token-few Good brings rest e = brought-few brings rest e
-  token-few (Bad reason) brings rest e = let z : _≡_ {A = ℕ} 0 1 = cc in absurd (omega arith)
+  token-few (Bad reason) brings rest e = apart (cc)
 
   pub operand-few : (tokens : List ℕ) → operand v place offset tokens ≡ Took n → n ≤ 2
   unfolding operand
-  operand-few [] e = let z : _≡_ {A = ℕ} 0 1 = cc in absurd (omega arith)
+  operand-few [] e = apart (cc)
   operand-few (token ∷ rest) e = token-few (tokenAt v place token) (bringsRelative place token) rest e
 
   pub operand-within : (at : ℕ) (behind : List ℕ) → at ≤ length behind → operand v place offset (drop at behind) ≡ Took n → at + n ≤ length behind

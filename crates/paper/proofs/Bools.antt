@@ -8,7 +8,7 @@ use native.Mathlib.Omega.{arith}
 pub apart : {A : Type 0} → _≡_ {A = ℕ} 0 1 → A
 apart e = absurd (omega arith)
 
-pub never : {A : Type 0} → _≡_ {A = Bool} true false → A
+pub never : {A : Type 0} → _≡_ {A = Bool} false true → A
 never e = apart (cc)
 
 pub both-left : (a b : Bool) → a && b ≡ true → a ≡ true
@@ -18,6 +18,9 @@ both-left false b t = t
 pub both-right : (a b : Bool) → a && b ≡ true → b ≡ true
 both-right true b t = t
 both-right false b t = apart (cc)
+
+pub both : (a b : Bool) → a && b ≡ true → (a ≡ true) × (b ≡ true)
+both a b t = (both-left a b t, both-right a b t)
 
 pub and-true : (a : Bool) → a && true ≡ a
 and-true true = refl

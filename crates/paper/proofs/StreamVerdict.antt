@@ -11,9 +11,14 @@ use Rattle.paper.specs.Versions.{named}
 use Rattle.paper.specs.Stream.{walked, mostTokens, lengthLaid, verdict}
 use Rattle.paper.specs.declared.Version.{Version}
 use Rattle.paper.specs.declared.Named.the-variants.{Known, Unknown}
+use Rattle.paper.specs.declared.Refusal.{Refusal}
 use Rattle.paper.specs.declared.Reason.the-variants.{Length as LENGTH, Version as VERSION}
-use Rattle.paper.specs.declared.Verdict.the-variants.{Refused}
-use Rattle.paper.proofs.Bools.{both-left}
+use Rattle.paper.specs.declared.Verdict.the-variants.{Accepted, Refused}
+use Rattle.paper.proofs.Bools.{apart, both-left}
+
+-- a refusal is no yes
+pub unlike : {A : Type 0} {r : Refusal} {n : ℕ} → Refused r ≡ Accepted n → A
+unlike e = apart (cc)
 
 pub laid-two : (n : ℕ) → lengthLaid n ≡ true → 2 ≤ n
 laid-two n e = leb-true 2 n (both-left (leb 2 n) (leb n mostTokens) e)

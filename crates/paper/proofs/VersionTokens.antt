@@ -10,7 +10,7 @@ use Rattle.paper.specs.Versions.{versions, versionToken, namedAmong, nam
 use Rattle.paper.specs.declared.Version.{Version}
 use Rattle.paper.specs.declared.Version.the-variants.{V2, V3, P2, P3}
 use Rattle.paper.specs.declared.Named.the-variants.{Known}
-use Rattle.paper.proofs.Bools.{both-left, both-right}
+use Rattle.paper.proofs.Bools.{both-left, both-right, apart}
 
 pub named-back : (v : Version) → named (versionToken v) ≡ Known v
 named-back V2 = refl
@@ -24,7 +24,7 @@ inEach rule [] = true
 inEach rule (v ∷ vs) = rule v && inEach rule vs
 
 each-named : (rule : Version → Bool) (vs : List Version) (token : ℕ) (v : Version) → inEach rule vs ≡ true → namedAmong vs token ≡ Known v → rule v ≡ true
-each-named rule [] token v t e = let z : _≡_ {A = ℕ} 0 1 = cc in absurd (omega arith)
+each-named rule [] token v t e = apart (cc)
 each-named rule (w ∷ vs) token v t e =
     by (eqb token (versionToken w)) (each-named rule vs token v (both-right (rule w) (inEach rule vs) t)) e
   where

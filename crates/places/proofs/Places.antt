@@ -8,7 +8,7 @@ use lib.Dec.{eqb, ltb, lit<}
 use borrow.Author.Tests.{eq-eqb, ne-eqb, eqb-true, eqb-false, ltb-true}
 use Rattle.paper.specs.Notation.{pick}
 use Rattle.places.specs.Places.{placeBy, numberBy}
-use Rattle.paper.proofs.Bools.{both-left, both-right}
+use Rattle.paper.proofs.Bools.{both-left, both-right, never}
 use Rattle.paper.specs.Places.{free, only, Place, raw, usage, declared, destination, source, condition, predicate, relative}
 
 -- the places that a number has: those of one type below 28, TEXKILL's, and those with a name
@@ -34,9 +34,6 @@ isPlace (source (only types)) = isSource types
 isPlace condition = true
 isPlace predicate = true
 isPlace relative = true
-
-absurd-bool : {A : Type 0} → _≡_ {A = Bool} false true → A
-absurd-bool t = let z : _≡_ {A = ℕ} 0 1 = cc in absurd (omega arith)
 
 destination-small : (types : List ℕ) → isDestination types ≡ true → numberBy (destination (only types)) < 128
 destination-small [] t = lit< tt
@@ -93,22 +90,22 @@ one-typed n some low =
 
 destination-back : (types : List ℕ) → isDestination types ≡ true → placeBy (numberBy (destination (only types))) ≡ destination (only types)
 unfolding placeBy
-destination-back [] t = absurd-bool t
+destination-back [] t = never t
 destination-back (type ∷ []) t =
     let h : type < 28 = ltb-true type 28 t in
     let type-back : (32 + type) % 32 ≡ type = omega arith in
     one-typed (32 + type) (omega arith) (omega arith) ∙ rw (eq-eqb ((32 + type) / 32) 1 (omega arith), type-back)
 destination-back (type ∷ (other ∷ [])) t =
     rw (eqb-true type 0 (both-left (eqb type 0) (eqb other 3) t), eqb-true other 3 (both-right (eqb type 0) (eqb other 3) t))
-destination-back (type ∷ (other ∷ (third ∷ types))) t = absurd-bool t
+destination-back (type ∷ (other ∷ (third ∷ types))) t = never t
 
 source-back : (types : List ℕ) → isSource types ≡ true → placeBy (numberBy (source (only types))) ≡ source (only types)
-source-back [] t = absurd-bool t
+source-back [] t = never t
 source-back (type ∷ []) t =
     let h : type < 28 = ltb-true type 28 t in
     let type-back : (64 + type) % 32 ≡ type = omega arith in
     one-typed (64 + type) (omega arith) (omega arith) ∙ rw (ne-eqb ((64 + type) / 32) 1 (λ e. omega arith), type-back)
-source-back (type ∷ (other ∷ types)) t = absurd-bool t
+source-back (type ∷ (other ∷ types)) t = never t
 
 pub place-back : (p : Place) → isPlace p ≡ true → placeBy (numberBy p) ≡ p
 unfolding placeBy

@@ -12,7 +12,7 @@ use Rattle.paper.specs.Notation.{pick, bits, bit}
 use Rattle.paper.specs.Versions.{isPixel}
 use Rattle.paper.specs.OperandTokens.{numberField, typeOf, modifierOf, bothLaid, relativeLaid, destinationLaid, sourceLaid, laid, bringsRelative}
 use Rattle.paper.specs.declared.Version.{Version}
-use Rattle.paper.proofs.Bools.{both-left, both-right, or-false}
+use Rattle.paper.proofs.Bools.{both-left, both-right, or-false, apart}
 use Rattle.paper.specs.Places.{Place, relative, isRaw, isDestination, isPredicate}
 use Rattle.opcodes.proofs.Shapes.{unpredicated}
 use Rattle.records.proofs.PlaceKinds.{laid-by, brings-by}
@@ -101,7 +101,7 @@ module _ (v : Version) (place : Place) (t : ℕ) (rest : List ℕ) (words : Word
       laid v place t ≡ true → (brings ≡ true → laid v relative (getD tail 0 0) ≡ true) → pick brings 2 1 ≤ suc (length tail) →
       operandTokens place (operandOf place t (pick brings (getD tail 0 0) 0)) ≡ take (pick brings 2 1) (t ∷ tail)
   unfolding Words
-  operand-by true true tail e r b l s h = let z : _≡_ {A = ℕ} 0 1 = cc in absurd (omega arith)
+  operand-by true true tail e r b l s h = apart (cc)
   operand-by true false tail e r b l s h = raw-token place t 0 r
   operand-by false true [] e r b l s h = absurd (omega arith)
   operand-by false true (u ∷ tail) e r b l s h =

@@ -68,12 +68,12 @@ module _ (v : Version) (u d : ℕ) (l : laid v declared d ≡ true) where
   usage-passed : Passed v U (u ∷ (d ∷ [])) 1
   unfolding widthAt
   usage-passed =
-      record { width = refl; there = omega arith; first-laid = refl; second-laid = λ t. never (sym t) }
+      record { width = refl; there = omega arith; first-laid = refl; second-laid = λ t. never t }
 
   destination-passed : Passed v declared (d ∷ []) 1
   unfolding widthAt
   destination-passed =
-      record { width = rw plain; there = omega arith; first-laid = l; second-laid = λ t. never (sym t ∙ plain) }
+      record { width = rw plain; there = omega arith; first-laid = l; second-laid = λ t. never (sym plain ∙ t) }
 
   both-passed : AllPassed v declaredRow (u ∷ (d ∷ []))
   both-passed = step usage-passed (step destination-passed none)

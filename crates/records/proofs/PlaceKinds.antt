@@ -1,5 +1,5 @@
 -- What the kinds of places say of a token.
-use mathlib.Core.Path.{_≡_, refl}
+use mathlib.Core.Path.{_≡_, refl, sym}
 use mathlib.Core.Bool.{Bool, true, false, not, _&&_}
 use Prim.Native.Nat.{ℕ}
 use lib.Dec.{eqb}
@@ -11,8 +11,8 @@ use Rattle.paper.specs.declared.Version.{Version}
 
 pub laid-by : (v : Version) (place : Place) (token : ℕ) → isRaw place ≡ false →
     laid v place token ≡ pick (isDestination place) (destinationLaid v place token) (sourceLaid v place token)
-laid-by v raw token r = never r
-laid-by v usage token r = never r
+laid-by v raw token r = never (sym r)
+laid-by v usage token r = never (sym r)
 laid-by v declared token r = refl
 laid-by v (destination types) token r = refl
 laid-by v (source types) token r = refl

@@ -18,12 +18,9 @@ use Rattle.places.proofs.Places.{by-place}
 use Rattle.paper.specs.Numbers.{toldToken}
 use Rattle.paper.specs.declared.Version.{Version}
 use Rattle.paper.specs.declared.Token.the-variants.{Good}
-use Rattle.paper.proofs.Bools.{both-left, both-right}
+use Rattle.paper.proofs.Bools.{both-left, both-right, never}
 use Rattle.paper.specs.Places.{free, only, Place, raw, usage, declared, destination, source, condition, predicate, relative, freeSource, freeDestination, isRaw, isDestination}
 use Rattle.tokens.specs.Plain.{plainSource, plainDestination}
-
-never : {A : Type 0} → _≡_ {A = Bool} false true → A
-never t = let z : _≡_ {A = ℕ} 0 1 = cc in absurd (omega arith)
 
 -- "R any 32 bits"; of U nothing is told by itself
 pub raw-good : (v : Version) (place : Place) (token : ℕ) → isRaw place ≡ true → Good ≡ tokenAt v place token

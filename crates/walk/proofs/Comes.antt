@@ -6,6 +6,7 @@ use mathlib.Core.List.{List}
 use native.Mathlib.Omega.{arith}
 use lib.ListN.{length}
 use borrow.Author.Tests.{le-ltb, ltb-true, ltb-false}
+use Rattle.paper.proofs.Bools.{apart}
 use Rattle.paper.specs.Stream.{walked}
 use Rattle.paper.specs.declared.Version.{Version}
 use Rattle.walk.specs.declared.State.{State}
@@ -28,8 +29,8 @@ leftTo step until = leftBy (step .answer) (step .state) until
 -- a step that goes on before a position
 on-by : (answer : Move) (state : State) (until : ℕ) → goesOn (stepOf answer state) until ≡ true → (answer ≡ On) × (state .at < until)
 on-by On state until g = (cc, ltb-true (state .at) until g)
-on-by Done state until g = let z : _≡_ {A = ℕ} 0 1 = cc in absurd (omega arith)
-on-by (Refused r) state until g = let z : _≡_ {A = ℕ} 0 1 = cc in absurd (omega arith)
+on-by Done state until g = apart (cc)
+on-by (Refused r) state until g = apart (cc)
 
 -- a step that does not go on before a position does not before an earlier one
 off-by : (answer : Move) (state : State) (until earlier : ℕ) → goesOn (stepOf answer state) until ≡ false → earlier ≤ until → goesOn (stepOf answer state) earlier ≡ false

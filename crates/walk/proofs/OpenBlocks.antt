@@ -8,6 +8,7 @@ use native.Mathlib.Omega.{arith}
 use lib.Dec.{eqb, ltb}
 use lib.ListN.{length}
 use borrow.Author.Tests.{ne-eqb, lt-ltb, le-ltb, ltb-true, ltb-false}
+use Rattle.paper.proofs.Bools.{apart}
 use Rattle.paper.specs.Notation.{pick}
 use Rattle.paper.specs.Blocks.{mostOpen, mayStand, isZero}
 use Rattle.paper.specs.Walk.{Kind, opened, pastElse, loops, inLoop, isEnd, closes, elses, closeAt, step, go, bad, finish}
@@ -187,11 +188,11 @@ next-is ks (Closes c) = closes-is ks c
 
 pick-few : (b : Bool) (ks ls : List Kind) (reason : Reason) → length ks ≤ 24 → pick b (go ks) (bad reason) ≡ go ls → length ls ≤ 24
 pick-few true ks ls reason h e = let same : ks ≡ ls = cc in rw same at h
-pick-few false ks ls reason h e = let z : _≡_ {A = ℕ} 0 1 = cc in absurd (omega arith)
+pick-few false ks ls reason h e = apart (cc)
 
 open-few : (b : Bool) (ks ls : List Kind) (o : Opener) → ltb (length ks) mostOpen ≡ b → pick b (go (opened o ∷ ks)) (bad DEPTH) ≡ go ls → length ls ≤ 24
 open-few true ks ls o e f = pick-few true (opened o ∷ ks) ls DEPTH (omega (arith, ltb-true (length ks) mostOpen e)) f
-open-few false ks ls o e f = let z : _≡_ {A = ℕ} 0 1 = cc in absurd (omega arith)
+open-few false ks ls o e f = apart (cc)
 
 close-few : (elsed closed : Bool) (k : Kind) (ks ls : List Kind) → length (k ∷ ks) ≤ 24 →
     pick elsed (go (pastElse ∷ ks)) (pick closed (go ks) (bad BLOCK)) ≡ go ls → length ls ≤ 24
@@ -199,8 +200,8 @@ close-few true closed k ks ls h e = pick-few true (pastElse ∷ ks) ls BLOCK h e
 close-few false closed k ks ls h e = pick-few closed ks ls BLOCK (omega arith) e
 
 none-few : (b : Bool) (ls : List Kind) → pick b finish (bad BLOCK) ≡ go ls → length ls ≤ 24
-none-few true ls e = let z : _≡_ {A = ℕ} 0 1 = cc in absurd (omega arith)
-none-few false ls e = let z : _≡_ {A = ℕ} 0 1 = cc in absurd (omega arith)
+none-few true ls e = apart (cc)
+none-few false ls e = apart (cc)
 
 pub step-few : (ks ls : List Kind) (c : Class) → length ks ≤ 24 → step ks c ≡ go ls → length ls ≤ 24
 step-few ks ls (One s) h e = pick-few (mayStand (length ks) (inLoop ks) s) ks ls BLOCK h e

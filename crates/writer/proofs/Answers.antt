@@ -7,6 +7,7 @@ use native.Mathlib.Omega.{arith}
 use lib.Dec.{eqb, leb}
 use lib.ListN.{length}
 use borrow.Author.Tests.{eqb-true, eq-eqb, ne-eqb}
+use Rattle.paper.proofs.Bools.{apart}
 use Rattle.paper.specs.Notation.{pick}
 use Rattle.paper.specs.Versions.{versionToken, versions, namedAmong, named}
 use Rattle.paper.specs.Numbers.{refusal}
@@ -22,7 +23,7 @@ use Rattle.writer.specs.Decided.{yieldedComment, readsBack, writable, wr
 
 -- the version that a token names
 named-among : (vs : List Version) (token : ℕ) (v : Version) → namedAmong vs token ≡ Known v → token ≡ versionToken v
-named-among [] token v e = let z : _≡_ {A = ℕ} 0 1 = cc in absurd (omega arith)
+named-among [] token v e = apart (cc)
 named-among (w ∷ vs) token v e = by (named-among vs token v) (eqb token (versionToken w)) refl e
   where
     by : (namedAmong vs token ≡ Known v → token ≡ versionToken v) → (b : Bool) → eqb token (versionToken w) ≡ b →

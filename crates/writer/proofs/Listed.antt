@@ -27,7 +27,7 @@ use Rattle.writer.specs.Row.{operandCount, rowNumber, rowOf, encodedBy, 
 
 -- what may be predicated has an operand
 some-place : (v : Version) (opcode : ℕ) (places : List Place) → mayBePredicated v opcode places ≡ true → length places ≡ 0 → ⊥
-some-place v opcode [] may z = let no = both-right (hasPredicates v) false may in never (sym no)
+some-place v opcode [] may z = let no = both-right (hasPredicates v) false may in never no
 some-place v opcode (place ∷ places) may z = omega arith
 
 module _ (v : Version) (opcode : ℕ) where

@@ -9,7 +9,7 @@ use lib.Dec.{eqb}
 use lib.ListN.{length, drop, getD, drop-of-length-le}
 use lib.Seq.{drop-cons}
 use borrow.Author.Tests.{eqb-true, eq-eqb}
-use Rattle.paper.proofs.Bools.{both-left, both-right}
+use Rattle.paper.proofs.Bools.{both-left, both-right, apart}
 use Rattle.records.specs.declared.Operand.{Operand}
 use Rattle.records.specs.declared.Record.{Record}
 use Rattle.records.specs.Record.{noOperand}
@@ -29,8 +29,8 @@ module _ (i : ℕ) (a b : List Operand) where
 -- equal numbers
 numbers-equal : (m : ℕ) (rest : List ℕ) (n : ℕ) (others : List ℕ) → sameNumbers m rest n others ≡ true → _≡_ {A = List ℕ} (m ∷ rest) (n ∷ others)
 numbers-equal m [] n [] h = let one = eqb-true m n h in cc
-numbers-equal m [] n (l ∷ others) h = let z : _≡_ {A = ℕ} 0 1 = cc in absurd (omega arith)
-numbers-equal m (k ∷ rest) n [] h = let z : _≡_ {A = ℕ} 0 1 = cc in absurd (omega arith)
+numbers-equal m [] n (l ∷ others) h = apart (cc)
+numbers-equal m (k ∷ rest) n [] h = apart (cc)
 numbers-equal m (k ∷ rest) n (l ∷ others) h =
     let one = eqb-true m n (both-left (eqb m n) (sameNumbers k rest l others) h) in
     let later = numbers-equal k rest l others (both-right (eqb m n) (sameNumbers k rest l others) h) in
@@ -77,8 +77,8 @@ record-same a a' b b' c c' d d' e e' z t = cc
 operands-equal : (a b : List Operand) → sameOperands a b ≡ true → a ≡ b
 unfolding sameOperands
 operands-equal [] [] h = refl
-operands-equal [] (y ∷ b) h = let z : _≡_ {A = ℕ} 0 1 = cc in absurd (omega arith)
-operands-equal (x ∷ a) [] h = let z : _≡_ {A = ℕ} 0 1 = cc in absurd (omega arith)
+operands-equal [] (y ∷ b) h = apart (cc)
+operands-equal (x ∷ a) [] h = apart (cc)
 operands-equal (x ∷ a) (y ∷ b) h =
     let one = operand-equal x y (both-left (sameOperand x y) (sameOperands a b) h) in
     let rest = operands-equal a b (both-right (sameOperand x y) (sameOperands a b) h) in

@@ -15,7 +15,7 @@ use Rattle.paper.specs.declared.Version.{Version}
 use Rattle.paper.specs.declared.Class.the-variants.{One}
 use Rattle.paper.specs.declared.Single.the-variants.{Comment}
 use Rattle.paper.specs.declared.Judged.the-variants.{Good as Lawful}
-use Rattle.paper.proofs.Bools.{both-left, both-right}
+use Rattle.paper.proofs.Bools.{both-left, both-right, apart}
 use Rattle.records.specs.declared.Record.{Record}
 use Rattle.records.specs.Record.{commentRecord}
 use Rattle.reader.specs.declared.Answer.{Answer}
@@ -63,7 +63,7 @@ pub record Given (reading : Reading) (r : Record) : Type 0 where
 given-by : (answer : Answer) (i r : Record) → (isGot answer && sameRecord i r) ≡ true → Given (reading-of answer i) r
 unfolding reading-of
 given-by (Got next) i r h = record { next = next; is = ap (got next) (record-equal i r h) }
-given-by (Refused x) i r h = let z : _≡_ {A = ℕ} 0 1 = cc in absurd (omega arith)
+given-by (Refused x) i r h = apart (cc)
 
 given : (reading : Reading) (r : Record) → gives reading r ≡ true → Given reading r
 unfolding reading-of
@@ -153,7 +153,7 @@ module _ (v : Version) (r : Record) (body : List ℕ) where
   writable-passes w = from-by (eqb (r .opcode) commentOpcode) refl (yielded-own v r (w .yielded)) (w .agrees)
 
   pub failed-unwritable : writable v r (length body) ≡ false → Writable v r body → ⊥
-  failed-unwritable h w = let passes = writable-passes w in let z : _≡_ {A = ℕ} 0 1 = cc in omega arith
+  failed-unwritable h w = let passes = writable-passes w in apart (cc)
 
   pub unwritable-fails : (Writable v r body → ⊥) → writable v r (length body) ≡ false
   unwritable-fails n = by (writable v r (length body)) refl
