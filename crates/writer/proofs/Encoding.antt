@@ -1,12 +1,11 @@
 -- What the code encodes of a record, before the body that it is lent.
-use mathlib.Core.Path.{_≡_, refl, sym, ap, _∙_}
+use mathlib.Core.Path.{_≡_, refl, sym, _∙_}
 use mathlib.Core.Bool.{Bool, true, false}
 use mathlib.Core.List.{List, [], _∷_, _++_, append-nil}
 use Prim.Native.Nat.{ℕ, _≤_}
 use native.Mathlib.Omega.{arith}
 use lib.Dec.{eqb}
 use lib.ListN.{length, take, set}
-use lib.Seq.{length-sets}
 use Rattle.lists.proofs.Stores.{front-stored}
 use Rattle.paper.specs.Notation.{pick}
 use Rattle.paper.specs.Versions.{versionToken}
@@ -18,7 +17,7 @@ use Rattle.record_tokens.specs.Tokens.{commentToken, tokensOf}
 use Rattle.writer.specs.Buffer.{wordsOf, Put}
 use Rattle.writer.specs.Row.{rowOf, encodedBy, encodedTokens}
 use Rattle.writer.specs.Decided.{yieldedComment, gives, readsBack, writable, Encodes}
-use Rattle.writer.proofs.Paste.{words-length}
+use Rattle.writer.proofs.Paste.{words-length, put-length}
 use Rattle.writer.proofs.Yielding.{back-tokens}
 use Rattle.writer.proofs.Answers.{comment-writable, comment-tokens, other-writable}
 
@@ -51,7 +50,7 @@ module _ (v : Version) (r : Record) (n : ℕ) where
     front = front-stored room (wordsOf (encodedTokens v r)) after count fits (omega (arith, put .next-is, words-length (encodedTokens v r))) (put .after-is)
 
     pub put-inside : count ≤ length after
-    put-inside = omega (arith, ap length (put .after-is), length-sets room 0 (wordsOf (encodedTokens v r)))
+    put-inside = omega (arith, put-length put)
 
     pub put-tested : gives (reading (versionToken v) (take count after) 0) r ≡ readsBack v r
     unfolding readsBack

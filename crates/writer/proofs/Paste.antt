@@ -1,14 +1,14 @@
 -- Tokens stored in a room one after the other, and at a place of a buffer.
-use mathlib.Core.Path.{_≡_, refl, sym, _∙_}
+use mathlib.Core.Path.{_≡_, refl, sym, ap, _∙_}
 use mathlib.Core.Bool.{Bool, true, false}
-use mathlib.Core.List.{List, [], _∷_, _++_, append-assoc, map-append}
-use Prim.Native.Nat.{ℕ, _+_, _-_, _≤_}
+use mathlib.Core.List.{List, [], _∷_, _++_, append-assoc, append-nil, map-append}
+use Prim.Native.Nat.{ℕ, zero, suc, _+_, _-_, _≤_}
 use native.Mathlib.Omega.{arith}
-use native.Mathlib.Numerals.{add-one}
 use lib.Dec.{leb}
-use lib.ListN.{length, take, drop, set, length-append, length-map}
-use lib.Seq.{sets, sets-eq, length-sets}
+use lib.ListN.{length, take, drop, set, length-set, length-drop, length-append, length-map, drop-of-length-le}
+use lib.Seq.{sets, sets-eq, length-sets, take-all}
 use borrow.Author.Tests.{leb-true, leb-false, le-leb, lt-leb}
+use borrow.Rule.Slice.PartMut.{midOf, putMid, mid-len}
 use Rattle.lists.proofs.Stores.{sets-append, sets-before}
 use Rattle.writer.specs.Buffer.{word, wordsOf, pasted, Put}
 
@@ -17,30 +17,65 @@ pub words-length : (tokens : List ℕ) → length (wordsOf tokens) ≡ length to
 unfolding wordsOf
 words-length tokens = length-map tokens word
 
--- one token, two tokens, and a first one behind the others
+-- what is put leaves a room as long as it was
+pub put-length : {tokens room after : List ℕ} {at next : ℕ} → Put tokens room at next after → length after ≡ length room
+put-length {tokens} {room} {after} {at} {next} put = ap length (put .after-is) ∙ length-sets room at (wordsOf tokens)
+
+-- the part of a room from a place on, lent and given back: what is stored at its front is stored at the place
+pub lent-length : (room : List ℕ) (at : ℕ) → length (midOf at (length room - at) room) ≡ length room - at
+lent-length room at = mid-len at (length room) room (omega arith)
+
+sets-behind : (x : ℕ) (vs l : List ℕ) (i : ℕ) → sets (x ∷ l) (suc i) vs ≡ x ∷ sets l i vs
+sets-behind x [] l i = refl
+sets-behind x (v ∷ vs) l i = sets-behind x vs (set l i v) (suc i)
+
+sets-part : (at : ℕ) (room vs : List ℕ) → at ≤ length room → take at room ++ sets (drop at room) 0 vs ≡ sets room at vs
+sets-part zero room vs h = refl
+sets-part (suc at) [] vs h = absurd (omega arith)
+sets-part (suc at) (x ∷ room) vs h = rw (sets-behind x vs room at) (ap (λ l. x ∷ l) (sets-part at room vs (omega arith)))
+
+module _ (room : List ℕ) (at : ℕ) (h : at ≤ length room) where
+  abbrev rest : ℕ
+  rest = length room - at
+
+  pub lent-on : (vs last : List ℕ) → last ≡ sets (midOf at rest room) 0 vs → putMid at rest room last ≡ sets room at vs
+  lent-on vs last e =
+      let all : length (drop at room) ≤ rest = omega (arith, length-drop at room) in
+      rw (e, take-all rest (drop at room) all, drop-of-length-le (drop at room) all, append-nil) (sets-part at room vs h)
+
+  pub put-on : (tokens last : List ℕ) (taken : ℕ) → Put tokens (midOf at rest room) 0 taken last → Put tokens room at (at + taken) (putMid at rest room last)
+  put-on tokens last taken put =
+      record { next-is = omega (arith, put .next-is); after-is = lent-on (wordsOf tokens) last (put .after-is) }
+
+-- one token, a second one in the remainder, and a first one before those in the remainder
 module _ (room : List ℕ) where
-  pub put-one : (tokens : List ℕ) (at t w : ℕ) → tokens ≡ t ∷ [] → w ≡ word t → Put tokens room at (at + 1) (set room at w)
+  pub put-one : (tokens : List ℕ) (t w : ℕ) → tokens ≡ t ∷ [] → w ≡ word t → Put tokens room 0 1 (set room 0 w)
   unfolding wordsOf
-  put-one tokens at t w e k = rw (e, k) (record { next-is = refl; after-is = refl })
+  put-one tokens t w e k = rw (e, k) (record { next-is = refl; after-is = refl })
 
-  pub put-two : (tokens : List ℕ) (at t u w x : ℕ) → tokens ≡ t ∷ (u ∷ []) → w ≡ word t → x ≡ word u →
-      Put tokens room at (at + 2) (set (set room at w) (at + 1) x)
+  pub put-two : (tokens last : List ℕ) (t u w x : ℕ) → 1 ≤ length room → tokens ≡ t ∷ (u ∷ []) → w ≡ word t → x ≡ word u →
+      last ≡ sets (midOf 1 (length (set room 0 w) - 1) (set room 0 w)) 0 (x ∷ []) → Put tokens room 0 2 (putMid 1 (length (set room 0 w) - 1) (set room 0 w) last)
   unfolding wordsOf
-  put-two tokens at t u w x e k l = rw (e, k, l) (record { next-is = refl; after-is = rw add-one })
+  put-two tokens last t u w x h e k l put =
+      record { next-is = rw e; after-is = rw (lent-on (set room 0 w) 1 (simp length-set h) (x ∷ []) last put, e, k, l) }
 
-  pub put-first : (tokens behind after : List ℕ) (t w next : ℕ) → tokens ≡ t ∷ behind → w ≡ word t → Put behind room 1 next after →
-      Put tokens room 0 next (set after 0 w)
+  pub put-first : (tokens behind last : List ℕ) (t w size : ℕ) → 1 ≤ length room → tokens ≡ t ∷ behind → w ≡ word t →
+      Put behind (midOf 1 (length room - 1) room) 0 size last → Put tokens room 0 (1 + size) (set (putMid 1 (length room - 1) room last) 0 w)
   unfolding wordsOf
-  put-first tokens behind after t w next e k put =
-      rw (e, k) (record { next-is = omega (arith, put .next-is); after-is = rw (put .after-is) (sets-before (word t ∷ []) (wordsOf behind) room 1 0 (omega arith)) })
+  put-first tokens behind last t w size h e k put =
+      rw (e, k)
+      (record {
+        next-is = omega (arith, put .next-is);
+        after-is = rw (lent-on room 1 h (wordsOf behind) last (put .after-is)) (sets-before (word t ∷ []) (wordsOf behind) room 1 0 (omega arith));
+      })
 
 -- what is left to be put, and the place for it
-pub record Rest (tokens room : List ℕ) (at : ℕ) (left : List ℕ) (next : ℕ) (after : List ℕ) : Type 0 where
-  pub ends : next + length left ≡ at + length tokens
-  pub leaves : sets after next (wordsOf left) ≡ sets room at (wordsOf tokens)
+pub record Rest (tokens room left : List ℕ) (next : ℕ) (after : List ℕ) : Type 0 where
+  pub ends : next + length left ≡ length tokens
+  pub leaves : sets after next (wordsOf left) ≡ sets room 0 (wordsOf tokens)
 
-module _ (tokens room : List ℕ) (at next : ℕ) (after : List ℕ) where
-  pub rest-on : (a b : List ℕ) (next' : ℕ) (after' : List ℕ) → Rest tokens room at (a ++ b) next after → Put a after next next' after' → Rest tokens room at b next' after'
+module _ (tokens room : List ℕ) (next : ℕ) (after : List ℕ) where
+  pub rest-on : (a b : List ℕ) (next' : ℕ) (after' : List ℕ) → Rest tokens room (a ++ b) next after → Put a after next next' after' → Rest tokens room b next' after'
   unfolding wordsOf
   rest-on a b next' after' rest put =
       let long : next' ≡ next + length (wordsOf a) = omega (arith, put .next-is, words-length a) in
@@ -49,10 +84,10 @@ module _ (tokens room : List ℕ) (at next : ℕ) (after : List ℕ) where
         leaves = rw (put .after-is, long, ← sets-append (wordsOf a) (wordsOf b) after next, ← map-append word a b) (rest .leaves);
       }
 
-  pub rest-none : (left : List ℕ) → left ≡ [] → Rest tokens room at left next after → Put tokens room at next after
+  pub rest-none : (left : List ℕ) → left ≡ [] → Rest tokens room left next after → Put tokens room 0 next after
   unfolding wordsOf
   rest-none left e rest =
-      let r : Rest tokens room at [] next after = rw e at rest in
+      let r : Rest tokens room [] next after = rw e at rest in
       record { next-is = omega (arith, r .ends); after-is = r .leaves }
 
 -- at a place of a buffer

@@ -1,7 +1,7 @@
 // The writer: document 01, "Records". One record, written into the part of a token buffer that starts at a given place.
 ghost use mathlib.Core.Path.{_≡_};
-ghost use mathlib.Core.List.{_++_};
-ghost use Prim.Native.Nat.{_+_, _^_, _≤_, _<_};
+ghost use mathlib.Core.List.{[], _∷_, _++_};
+ghost use Prim.Native.Nat.{_+_, _*_, _^_, _≤_, _<_};
 ghost use lib.Dec.{leb};
 ghost use lib.ListN.{length, getD};
 ghost use lib.Seq.{sets};
@@ -130,21 +130,28 @@ fn first_token(opcode: u32, controls: u32, size: usize, predicated: u32) -> u32
     (token % 0x1_0000_0000) as u32
 }
 
-// An operand's tokens from a place of the room on: its own, and its relative token. The next place.
-fn put_operand(room: &mut [u32], at: usize, place: u64, operand: Operand) -> usize
-    requires { ⌜ at + 2 ≤ length (now room) ⌝ }
-    ensures { λ next. ⌜ Put (operandTokens (placeBy place) operand) (now (room .entry)) at next (now (room .exit)) ⌝ }
+fn put_token(room: &mut [u32], token: u32)
+    requires { ⌜ 1 ≤ length (now room) ⌝ }
+    ensures { λ _. ⌜ now (room .exit) ≡ sets (now (room .entry)) 0 (token ∷ []) ⌝ }
+{
+    room[0] = token;
+}
+
+// An operand at the front of the room: its token, and its relative token in the remainder, which is lent on. How many tokens it takes.
+fn put_operand(room: &mut [u32], place: u64, operand: Operand) -> usize
+    requires { ⌜ 2 ≤ length (now room) ⌝ }
+    ensures { λ taken. ⌜ Put (operandTokens (placeBy place) operand) (now (room .entry)) 0 taken (now (room .exit)) ⌝ }
 {
     if places::is_raw(place) {
-        room[at] = raw_token(operand);
-        return at + 1;
+        room[0] = raw_token(operand);
+        return 1;
     }
-    room[at] = operand_token(operand);
+    room[0] = operand_token(operand);
     if operand.relative == 1 {
-        room[at + 1] = relative_token(operand);
-        return at + 2;
+        put_token(&mut room[1..], relative_token(operand));
+        return 2;
     }
-    at + 1
+    1
 }
 
 fn choose(test: bool, first: usize, second: usize) -> usize
@@ -153,21 +160,22 @@ fn choose(test: bool, first: usize, second: usize) -> usize
     if test { first } else { second }
 }
 
-// The operands of a row of places from place 1 of the room on, those in token order one after the other, and the predicate's where the row
-// has it. The next place.
+// The operands of a row of places at the front of the room, those in token order one after the other, and the predicate's where the row has
+// it: each is lent the remainder that the ones before it leave. How many tokens they take.
 fn put_row(room: &mut [u32], row: u64, operands: [Operand; records::OPERANDS]) -> usize
-    requires { ⌜ (length (decoded row) ≤ operandCount) × (mostEncoded ≤ length (now room)) ⌝ }
-    ensures { λ next. ⌜ Put (rowTokens (decoded row) operands (getD operands 5 noOperand)) (now (room .entry)) 1 next (now (room .exit)) × (next ≤ mostEncoded) ⌝ }
+    requires { ⌜ (length (decoded row) ≤ operandCount) × (2 * operandCount ≤ length (now room)) ⌝ }
+    ensures { λ next. ⌜ Put (rowTokens (decoded row) operands (getD operands 5 noOperand)) (now (room .entry)) 0 next (now (room .exit)) × (next ≤ 2 * operandCount) ⌝ }
 {
     let mut left = row;
-    let mut next = 1;
+    let mut next = 0;
     let mut held = 0;
     while left != 0 {
         let place = left % places::BASE;
         let predicate = places::is_predicate(place);
         let slot = choose(predicate, records::PREDICATE_SLOT, held);
         let operand = operands[slot];
-        next = put_operand(room, next, place, operand);
+        let taken = put_operand(&mut room[next..], place, operand);
+        next += taken;
         held = choose(predicate, held, held + 1);
         left = left / places::BASE;
     }
@@ -199,14 +207,14 @@ fn put_record(room: &mut [u32], version: Version, instruction: Record) -> usize
     let shape = opcodes::shape_of(version, instruction.opcode);
     let row = row_of(shape, instruction.predicated == 1);
     let operands = instruction.operands;
-    let next = put_row(room, row, operands);
+    let size = put_row(&mut room[1..], row, operands);
     room[0] = first_token(
         instruction.opcode,
         instruction.controls,
-        next - 1,
+        size,
         instruction.predicated,
     );
-    next
+    1 + size
 }
 
 fn is_yielded(version: u32, tokens: &[u32], instruction: Record) -> bool

@@ -1,4 +1,3 @@
-use Prim.Native.Nat.{_-_}
 use mathlib.Core.Path.{_≡_, refl}
 use native.Mathlib.Omega.{arith}
 use lib.Dec.{eqb}
@@ -6,7 +5,7 @@ use lib.ListN.{length}
 use Rattle.opcodes.specs.Shape.{shapeOf}
 use Rattle.record_tokens.specs.Tokens.{tokensBehind}
 use Rattle.writer.specs.Row.{rowNumber, rowOf}
-use Rattle.writer.proofs.Paste.{put-one, put-first}
+use Rattle.writer.proofs.Paste.{lent-length, put-one, put-first}
 use Rattle.writer.proofs.Listed.{row-few, end-encoded, other-encoded}
 use borrow.Author.Needs.{needs}
 use Rattle.writer.proofs.put_record.Statement.{statement}
@@ -15,12 +14,12 @@ use Rattle.writer.proofs.put_record.Tie as tie
 returns : tie.Need-returns
 returns c =
     let g = c .before .before .before .args in
-    (put-one (g .room .now) _ 0 _ _ (end-encoded (g .version) (g .instruction) (c .if1 .taken)) refl, omega arith)
+    (put-one (g .room .now) _ _ _ (end-encoded (g .version) (g .instruction) (c .if1 .taken)) refl, omega arith)
 
 put-row-requires : tie.Need-put-row-requires
 put-row-requires c κs =
     let g = c .before .before .before .before .before .before .before .before .args in
-    (rw (c .before .before .row-of .ensures, c .before .before .before .before .shape-of .ensures) (row-few (g .version) (g .instruction .opcode) (eqb (g .instruction .predicated) 1)), omega arith)
+    (rw (c .before .before .row-of .ensures, c .before .before .before .before .shape-of .ensures) (row-few (g .version) (g .instruction .opcode) (eqb (g .instruction .predicated) 1)), rw lent-length (omega arith))
 
 returns-2 : tie.Need-returns-2
 returns-2 c =
@@ -29,8 +28,8 @@ returns-2 c =
     let is-row : row .result ≡ rowNumber (shapeOf (g .version) (g .instruction .opcode)) (eqb (g .instruction .predicated) 1) =
     rw (c .before .before .before .before .before .before .before .before .shape-of .ensures) at (row .ensures) in
     let put = rw is-row at (c .before .before .before .put-row .ensures .0) in
-    let size : c .before .before .before .put-row .result - 1 ≡ length (tokensBehind (g .instruction) (rowOf (g .version) (g .instruction))) = omega (arith, put .next-is) in
-    (put-first (g .room .now) _ _ _ _ _ _ (other-encoded (g .version) (g .instruction) (c .before .before .before .before .before .before .before .before .before .if1 .left)) (rw size at (c .first-token .ensures)) put, omega arith)
+    let size : c .before .before .before .put-row .result ≡ length (tokensBehind (g .instruction) (rowOf (g .version) (g .instruction))) = omega (arith, put .next-is) in
+    (put-first (g .room .now) _ _ _ _ _ _ (omega arith) (other-encoded (g .version) (g .instruction) (c .before .before .before .before .before .before .before .before .before .if1 .left)) (rw size at (c .first-token .ensures)) put, omega arith)
 
 pub put-record-spec : {M : Type 1} → statement M
 put-record-spec =
@@ -41,9 +40,12 @@ put-record-spec =
     returns
     (λ c κs. search needs)
     (λ c κs. search needs)
-    put-row-requires
     (λ c. search needs)
+    (λ c. search needs)
+    (λ c. search needs)
+    put-row-requires
     (λ c κs. search needs)
+    (λ c. search needs)
     (λ c. search needs)
     (λ c. search needs)
     returns-2)

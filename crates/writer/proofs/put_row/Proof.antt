@@ -1,13 +1,12 @@
 use Prim.Native.Nat.{_+_, _*_, _/_, _%_, _≤_}
 use native.Mathlib.Omega.{arith}
-use mathlib.Core.Path.{_≡_, refl, ap, _∙_}
+use mathlib.Core.Path.{_≡_, refl, _∙_}
 use lib.ListN.{length, drop, getD}
-use lib.Seq.{length-sets}
 use Rattle.places.specs.Places.{placeBy, decoded}
 use Rattle.records.specs.Record.{noOperand}
 use Rattle.record_tokens.specs.Tokens.{rowTokens}
-use Rattle.writer.specs.Row.{operandCount, mostEncoded}
-use Rattle.writer.proofs.Paste.{Rest, rest-on, rest-none}
+use Rattle.writer.specs.Row.{operandCount}
+use Rattle.writer.proofs.Paste.{put-length, lent-length, put-on, Rest, rest-on, rest-none}
 use Rattle.writer.proofs.Row.{places-step, row-step, row-none, operand-few, slot-few, held-few}
 use borrow.Author.Needs.{needs}
 use Rattle.writer.proofs.put_row.Statement.{statement}
@@ -18,8 +17,8 @@ Inv-loop room₀ row operands left₀ next₀ held₀ room left next held =
     (left ≤ row)
     × (length room ≡ length room₀)
     × (held + length (decoded left) ≤ operandCount)
-    × (next + 2 * length (decoded left) ≤ mostEncoded)
-    × Rest (rowTokens (decoded row) operands (getD operands 5 noOperand)) room₀ 1 (rowTokens (decoded left) (drop held operands) (getD operands 5 noOperand)) next room
+    × (next + 2 * length (decoded left) ≤ 2 * operandCount)
+    × Rest (rowTokens (decoded row) operands (getD operands 5 noOperand)) room₀ (rowTokens (decoded left) (drop held operands) (getD operands 5 noOperand)) next room
 
 abbrev μ-loop : tie.MeasureT-loop
 μ-loop room₀ row operands left₀ next₀ held₀ room left next held = left
@@ -30,30 +29,34 @@ slot c =
     let l = c .before .before .before .loop in
     slot-few (c .before .is-predicate .result) (l .held) (c .choose .result) (omega (arith, places-step (l .left) (omega arith) (c .before .before .loop-test .taken))) (c .choose .ensures)
 
+-- an operand takes one token or two
+few : (c : tie.After-put-operand Inv-loop μ-loop) → c .put-operand .result ≤ 2
+few c =
+    omega (arith, c .put-operand .ensures .next-is, operand-few (placeBy (c .before .before .before .before .before .before .loop .left % 128)) (getD (c .before .before .before .before .before .before .before .before .args .t3) (c .before .before .before .choose .result) noOperand))
+
 loop-again : tie.Need-loop-again Inv-loop μ-loop
 loop-again c =
     let g = c .before .before .before .before .before .before .before .before .before .before .before .args in
     let l = c .before .before .before .before .before .before .before .before .before .loop in
     let some = c .before .before .before .before .before .before .before .before .loop-test .taken in
     let predicate = c .before .before .before .before .before .before .before .is-predicate in
-    let put = c .before .before .before .put-operand in
+    let put = put-on (l .room) (l .next) (omega arith) _ _ _ (c .before .before .before .put-operand .ensures) in
     let places = places-step (l .left) (omega arith) some in
-    let few = operand-few (placeBy (l .left % 128)) (getD (g .t3) (c .before .before .before .before .before .before .choose .result) noOperand) in
     let step = row-step (l .left) (omega arith) some (l .held) (g .t3) (predicate .result) (predicate .ensures) in (
       omega arith,
-      ap length (put .ensures .after-is) ∙ simp length-sets (l .inv .1),
+      put-length put ∙ l .inv .1,
       held-few (predicate .result) (l .held) (c .choose2 .result) (length (decoded (l .left / 128))) (omega arith) (c .choose2 .ensures),
-      omega (arith, put .ensures .next-is),
+      omega (arith, few (c .before .before .before)),
       rw (c .choose2 .ensures)
-          (rest-on (rowTokens (decoded (g .row)) (g .t3) (getD (g .t3) 5 noOperand)) (g .room .now) 1 (l .next) (l .room) _ _ (put .result) (put .last .0)
-          (rw step at (l .inv .4)) (rw (c .before .before .before .before .before .before .choose .ensures) at (put .ensures))),
+          (rest-on (rowTokens (decoded (g .row)) (g .t3) (getD (g .t3) 5 noOperand)) (g .room .now) (l .next) (l .room) _ _ _ _
+          (rw step at (l .inv .4)) (rw (c .before .before .before .before .before .before .choose .ensures) at put)),
     )
 
 returns : tie.Need-returns Inv-loop μ-loop
 returns c =
     let g = c .before .before .before .args in
     let l = c .before .loop in
-    (rest-none _ (g .room .now) 1 (l .next) (l .room) _ (row-none (l .left) (drop (l .held) (g .t3)) (getD (g .t3) 5 noOperand) (c .loop-test .left)) (l .inv .4), omega arith)
+    (rest-none _ (g .room .now) (l .next) (l .room) _ (row-none (l .left) (drop (l .held) (g .t3)) (getD (g .t3) 5 noOperand) (c .loop-test .left)) (l .inv .4), omega arith)
 
 pub put-row-spec : {M : Type 1} → statement M
 put-row-spec =
@@ -61,12 +64,17 @@ put-row-spec =
     (tie.spec
     Inv-loop
     μ-loop
-    (λ c. (omega arith, refl, omega arith, omega arith, record { ends = refl; leaves = refl }))
+    (λ c. (omega arith, refl, omega arith, omega arith, record { ends = omega arith; leaves = refl }))
     (λ c κs. search needs)
     (λ c κs. search needs)
     (λ c. omega (arith, slot c))
     (λ c. omega (arith, slot c))
-    (λ c κs. let l = c .before .before .before .before .before .loop in omega (arith, places-step (l .left) (omega arith) (c .before .before .before .before .loop-test .taken)))
+    (λ c. omega arith)
+    (λ c. omega arith)
+    (λ c. omega arith)
+    (λ c. search needs)
+    (λ c κs. let l = c .before .before .before .before .before .loop in rw lent-length (omega (arith, places-step (l .left) (omega arith) (c .before .before .before .before .loop-test .taken))))
+    (λ c. omega (arith, few (c .before .before)))
     (λ c. search needs)
     (λ c κs. search needs)
     (λ c. search needs)
