@@ -9,7 +9,7 @@ use lib.ListN.{length, take, drop, set, length-set, length-drop, length-append, 
 use lib.Seq.{sets, sets-eq, length-sets, take-all}
 use borrow.Author.Tests.{leb-true, leb-false, le-leb, lt-leb}
 use borrow.Rule.Slice.PartMut.{midOf, putMid, mid-len}
-use Rattle.lists.proofs.Stores.{sets-append, sets-before}
+use Rattle.lists.proofs.Stores.{sets-append, sets-before, lent-stored}
 use Rattle.writer.specs.Buffer.{word, wordsOf, pasted, Put}
 
 -- the words of tokens
@@ -25,27 +25,10 @@ put-length {tokens} {room} {after} {at} {next} put = ap length (put .after-is) �
 pub lent-length : (room : List ℕ) (at : ℕ) → length (midOf at (length room - at) room) ≡ length room - at
 lent-length room at = mid-len at (length room) room (omega arith)
 
-sets-behind : (x : ℕ) (vs l : List ℕ) (i : ℕ) → sets (x ∷ l) (suc i) vs ≡ x ∷ sets l i vs
-sets-behind x [] l i = refl
-sets-behind x (v ∷ vs) l i = sets-behind x vs (set l i v) (suc i)
-
-sets-part : (at : ℕ) (room vs : List ℕ) → at ≤ length room → take at room ++ sets (drop at room) 0 vs ≡ sets room at vs
-sets-part zero room vs h = refl
-sets-part (suc at) [] vs h = absurd (omega arith)
-sets-part (suc at) (x ∷ room) vs h = rw (sets-behind x vs room at) (ap (λ l. x ∷ l) (sets-part at room vs (omega arith)))
-
-module _ (room : List ℕ) (at : ℕ) (h : at ≤ length room) where
-  abbrev rest : ℕ
-  rest = length room - at
-
-  pub lent-on : (vs last : List ℕ) → last ≡ sets (midOf at rest room) 0 vs → putMid at rest room last ≡ sets room at vs
-  lent-on vs last e =
-      let all : length (drop at room) ≤ rest = omega (arith, length-drop at room) in
-      rw (e, take-all rest (drop at room) all, drop-of-length-le (drop at room) all, append-nil) (sets-part at room vs h)
-
-  pub put-on : (tokens last : List ℕ) (taken : ℕ) → Put tokens (midOf at rest room) 0 taken last → Put tokens room at (at + taken) (putMid at rest room last)
-  put-on tokens last taken put =
-      record { next-is = omega (arith, put .next-is); after-is = lent-on (wordsOf tokens) last (put .after-is) }
+pub put-on : (room : List ℕ) (at : ℕ) → at ≤ length room → (tokens last : List ℕ) (taken : ℕ) → Put tokens (midOf at (length room - at) room) 0 taken last →
+    Put tokens room at (at + taken) (putMid at (length room - at) room last)
+put-on room at h tokens last taken put =
+    record { next-is = omega (arith, put .next-is); after-is = lent-stored room (wordsOf tokens) last at h (put .after-is) }
 
 -- one token, a second one in the remainder, and a first one before those in the remainder
 module _ (room : List ℕ) where
@@ -57,7 +40,7 @@ module _ (room : List ℕ) where
       last ≡ sets (midOf 1 (length (set room 0 w) - 1) (set room 0 w)) 0 (x ∷ []) → Put tokens room 0 2 (putMid 1 (length (set room 0 w) - 1) (set room 0 w) last)
   unfolding wordsOf
   put-two tokens last t u w x h e k l put =
-      record { next-is = rw e; after-is = rw (lent-on (set room 0 w) 1 (simp length-set h) (x ∷ []) last put, e, k, l) }
+      record { next-is = rw e; after-is = rw (lent-stored (set room 0 w) (x ∷ []) last 1 (simp length-set h) put, e, k, l) }
 
   pub put-first : (tokens behind last : List ℕ) (t w size : ℕ) → 1 ≤ length room → tokens ≡ t ∷ behind → w ≡ word t →
       Put behind (midOf 1 (length room - 1) room) 0 size last → Put tokens room 0 (1 + size) (set (putMid 1 (length room - 1) room last) 0 w)
@@ -66,7 +49,7 @@ module _ (room : List ℕ) where
       rw (e, k)
       (record {
         next-is = omega (arith, put .next-is);
-        after-is = rw (lent-on room 1 h (wordsOf behind) last (put .after-is)) (sets-before (word t ∷ []) (wordsOf behind) room 1 0 (omega arith));
+        after-is = rw (lent-stored room (wordsOf behind) last 1 h (put .after-is)) (sets-before (word t ∷ []) (wordsOf behind) room 1 0 (omega arith));
       })
 
 -- what is left to be put, and the place for it
