@@ -34,18 +34,18 @@ flag b place = pick b (2 ^ place) 0
 
 -- bits 39:0 DCL's forms by type; bit 40 pixel, 41 predicates, 42 relative sources, 43 relative destinations, 44 a relative token of type 3,
 -- 45 a face to declare; from bit 46 on the rank
-abbrev numberOf : Version → ℕ
-numberOf v =
+abbrev traitsOf : Version → ℕ
+traitsOf v =
     formed 1 (samplerTypes v) + (formed 2 (plainTypes v) + (formed 3 (usageTypes v)
     + (flag (isPixel v) 40 + (flag (hasPredicates v) 41 + (flag (relativeSources v) 42 + (flag (relativeDestinations v) 43
     + (flag (has v .addresses) 44 + (flag (declaresFace v) 45 + 2 ^ 46 * rank v))))))))
 
 -- the same by its cases, as the code has it
 abbrev pub rowNumber : Version → ℕ
-rowNumber V2 = numberOf V2
-rowNumber V3 = numberOf V3
-rowNumber P2 = numberOf P2
-rowNumber P3 = numberOf P3
+rowNumber V2 = traitsOf V2
+rowNumber V3 = traitsOf V3
+rowNumber P2 = traitsOf P2
+rowNumber P3 = traitsOf P3
 
 -- what such a number tells
 pub record Tells (v : Version) (row : ℕ) : Type 0 where

@@ -184,26 +184,26 @@ next-is ks (One s) = stands-is ks s
 next-is ks (Opens o) = opens-is ks o
 next-is ks (Closes c) = closes-is ks c
 
--- the step keeps at most 24 blocks open
+-- the step keeps at most mostOpen blocks open
 
-pick-few : (b : Bool) (ks ls : List Kind) (reason : Reason) → length ks ≤ 24 → pick b (go ks) (bad reason) ≡ go ls → length ls ≤ 24
+pick-few : (b : Bool) (ks ls : List Kind) (reason : Reason) → length ks ≤ mostOpen → pick b (go ks) (bad reason) ≡ go ls → length ls ≤ mostOpen
 pick-few true ks ls reason h e = let same : ks ≡ ls = cc in rw same at h
 pick-few false ks ls reason h e = apart (cc)
 
-open-few : (b : Bool) (ks ls : List Kind) (o : Opener) → ltb (length ks) mostOpen ≡ b → pick b (go (opened o ∷ ks)) (bad DEPTH) ≡ go ls → length ls ≤ 24
+open-few : (b : Bool) (ks ls : List Kind) (o : Opener) → ltb (length ks) mostOpen ≡ b → pick b (go (opened o ∷ ks)) (bad DEPTH) ≡ go ls → length ls ≤ mostOpen
 open-few true ks ls o e f = pick-few true (opened o ∷ ks) ls DEPTH (omega (arith, ltb-true (length ks) mostOpen e)) f
 open-few false ks ls o e f = apart (cc)
 
-close-few : (elsed closed : Bool) (k : Kind) (ks ls : List Kind) → length (k ∷ ks) ≤ 24 →
-    pick elsed (go (pastElse ∷ ks)) (pick closed (go ks) (bad BLOCK)) ≡ go ls → length ls ≤ 24
+close-few : (elsed closed : Bool) (k : Kind) (ks ls : List Kind) → length (k ∷ ks) ≤ mostOpen →
+    pick elsed (go (pastElse ∷ ks)) (pick closed (go ks) (bad BLOCK)) ≡ go ls → length ls ≤ mostOpen
 close-few true closed k ks ls h e = pick-few true (pastElse ∷ ks) ls BLOCK h e
 close-few false closed k ks ls h e = pick-few closed ks ls BLOCK (omega arith) e
 
-none-few : (b : Bool) (ls : List Kind) → pick b finish (bad BLOCK) ≡ go ls → length ls ≤ 24
+none-few : (b : Bool) (ls : List Kind) → pick b finish (bad BLOCK) ≡ go ls → length ls ≤ mostOpen
 none-few true ls e = apart (cc)
 none-few false ls e = apart (cc)
 
-pub step-few : (ks ls : List Kind) (c : Class) → length ks ≤ 24 → step ks c ≡ go ls → length ls ≤ 24
+pub step-few : (ks ls : List Kind) (c : Class) → length ks ≤ mostOpen → step ks c ≡ go ls → length ls ≤ mostOpen
 step-few ks ls (One s) h e = pick-few (mayStand (length ks) (inLoop ks) s) ks ls BLOCK h e
 step-few ks ls (Opens o) h e = open-few (ltb (length ks) mostOpen) ks ls o refl e
 step-few [] ls (Closes c) h e = none-few (isEnd c) ls e

@@ -5,6 +5,7 @@ use mathlib.Core.List.{List, []}
 use lib.ListN.{length, drop}
 use Rattle.paper.specs.Instruction.{judged}
 use Rattle.paper.specs.Walk.{Kind}
+use Rattle.paper.specs.Blocks.{mostOpen}
 use Rattle.paper.specs.Stream.{cutFrom, walked}
 use Rattle.paper.specs.declared.Version.{Version}
 use Rattle.blocks.specs.Reach.{Reaches}
@@ -20,7 +21,7 @@ use Rattle.walk.specs.Steps.{onJudged, verdictBy}
 pub record Stands (v : Version) (s : List ℕ) (state : State) : Type 0 where
   pub opened : List Kind
   pub numbered : state .kinds ≡ kindsNumber opened
-  pub few : length opened ≤ 24
+  pub few : length opened ≤ mostOpen
   pub within : state .at ≤ length s
   pub counted : state .count ≤ state .at
   pub reaches : Reaches (cutFrom v s 1) [] (cutFrom v s (state .at)) opened
