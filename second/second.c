@@ -275,8 +275,6 @@ static bool is_declarable(uint32_t destination)
 /* DCL's usage token beside a lawful destination of this type. */
 static bool is_usage(enum version version, uint32_t type, uint32_t token)
 {
-    const uint32_t usage = field(token, 0, 0x1F);
-    const uint32_t index = field(token, 16, 0xF);
     const uint32_t texture = field(token, 27, 0xF);
 
     if (!(token & BIT_31))
@@ -285,11 +283,7 @@ static bool is_usage(enum version version, uint32_t type, uint32_t token)
         return (token & 0x07FFFFFF) == 0 && texture >= 2 && texture <= 4;
     if (version == P2 || type == TYPE_MISC)
         return token == BIT_31;
-    if (token & 0x7FF0FFE0)
-        return false;
-    if (version == P3)
-        return (usage == 5 && index <= 7) || (usage == 10 && index == 0);
-    return usage <= 13;
+    return (token & 0x7FF0FFE0) == 0 && field(token, 0, 0x1F) <= 13;
 }
 
 /*

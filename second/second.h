@@ -1,6 +1,6 @@
 /*
- * A second program for the rules of document 01: check, reader, writer and
- * edit of shader token streams (vs_2_0, vs_3_0, ps_2_0, ps_3_0).
+ * A second program for the rules of documents 01 and 02: check, reader, writer
+ * and edit of shader token streams (vs_2_0, vs_3_0, ps_2_0, ps_3_0).
  *
  * Nothing here allocates or keeps state between calls. A pointer whose length
  * is 0 may be null.

@@ -2,7 +2,7 @@
  * Seeded, repeatable test data: token streams lawful, systematic and damaged,
  * edits and records. The same seed gives the same data on every machine.
  *
- * The table in generate.c is typed from document 01 by itself and shares
+ * The table in generate.c is typed from documents 01 and 02 by itself and shares
  * nothing with second.c; second_read is used only to cut streams into
  * instructions and to turn lawful tokens into records.
  */

@@ -1,5 +1,5 @@
-/* The shop pieces of document 01 and the streams of the readings, with the
-   answers as the papers state them. */
+/* The shop pieces of document 01, the streams of the readings and those of
+   document 02's requests, with the answers as the papers state them. */
 #include "../../second/second.h"
 
 #include <stdbool.h>
@@ -167,11 +167,6 @@ static const struct check_piece check_pieces[] = {
     {"V2 01000028 B0E41000 0000002B .", 8, 2, 0},
     {"V2 0200001A A0E41000 B0E41000 .", 8, 3, 0},
     /* 15 */
-    {"P3 0200001F 80000000 900F0000 .", 7, 2, 0},
-    {"P3 0200001F 80070005 900F0000 .", 0, 0, 1},
-    {"P3 0200001F 80080005 900F0000 .", 7, 2, 0},
-    {"P3 0200001F 8000000A B00F0000 .", 0, 0, 1},
-    {"P3 0200001F 8001000A B00F0000 .", 7, 2, 0},
     {"P2 0200001F 80000000 900F0000 .", 0, 0, 1},
     {"P2 0200001F 80000005 900F0000 .", 7, 2, 0},
     {"V2 0200001F 800F000D 900F0000 .", 0, 0, 1},
@@ -186,6 +181,27 @@ static const struct check_piece check_pieces[] = {
     {"P3 0200001F D0000000 A00F0800 .", 7, 2, 0},
     {"V3 0200001F 80000000 E00F0000 .", 0, 0, 1},
     {"V2 0200001F 80000000 E00F0000 .", 8, 3, 0},
+    /* document 02, Q-6 */
+    {"P3 0200001F 8001000A 900F0000 .", 0, 0, 1},
+    {"P3 0200001F 8001000A B00F0000 .", 0, 0, 1},
+    {"P3 0200001F 8000000A B00F0000 .", 0, 0, 1},
+    {"P3 0200001F 80070005 900F0000 .", 0, 0, 1},
+    {"P3 0200001F 80080005 900F0000 .", 0, 0, 1},
+    {"P3 0200001F 80000000 900F0000 .", 0, 0, 1},
+    {"P3 0200001F 800F000D 900F0000 .", 0, 0, 1},
+    {"P3 0200001F 800F000D B00F0000 .", 0, 0, 1},
+    {"P3 0200001F 8000000E 900F0000 .", 7, 2, 0},
+    {"P3 0200001F 8000000E B00F0000 .", 7, 2, 0},
+    {"P3 0200001F 80000020 900F0000 .", 7, 2, 0},
+    {"P3 0200001F 80100000 900F0000 .", 7, 2, 0},
+    {"P3 0200001F 8010000A 900F0000 .", 7, 2, 0},
+    {"P3 0200001F 0001000A 900F0000 .", 7, 2, 0},
+    {"P3 0200001F 8001000A 900F2000 .", 7, 3, 0},
+    {"P3 0300001F 8001000A 900F0000 00000000 .", 6, 1, 0},
+    {"P3 0200001F 8001000A E00F0000 .", 8, 3, 0},
+    {"P3 0200001F 80000005 900F1000 .", 7, 2, 0},
+    {"P2 0200001F 8001000A 900F0000 .", 7, 2, 0},
+    {"P2 0200001F 8001000A B00F0000 .", 7, 2, 0},
     /* 16 */
     {"V2 01000000 .", 6, 1, 0},
     {"V2 02000000 .", 5, 1, 0},
@@ -248,6 +264,40 @@ static void run_checks(void)
         if (count > 0) {
             const struct second_verdict cut = second_check_bytes(bytes, 4 * count - 1);
             say(cut.number == 1 && cut.position == 0, "bytes not a multiple of 4");
+        }
+    }
+}
+
+/* A DCL of this type, beside this U. */
+static struct second_verdict check_declaration(uint32_t version, uint32_t type, uint32_t u)
+{
+    const uint32_t destination = 0x800F0000 | (type & 7) << 28 | (type >> 3) << 11;
+    const uint32_t tokens[] = {version, 0x0200001F, u, destination, 0x0000FFFF};
+
+    return second_check(tokens, sizeof tokens / sizeof *tokens);
+}
+
+/* Wherever U is a usage: every usage with every index, and every bit of U. */
+static void run_usages(void)
+{
+    static const struct { uint32_t version, type; } places[] = {
+        {0xFFFE0200, 1}, {0xFFFE0300, 1}, {0xFFFE0300, 6}, {0xFFFF0300, 1}, {0xFFFF0300, 3},
+    };
+
+    for (size_t k = 0; k < sizeof places / sizeof *places; k++) {
+        const uint32_t version = places[k].version, type = places[k].type;
+        for (uint32_t usage = 0; usage < 32; usage++)
+            for (uint32_t index = 0; index < 16; index++) {
+                const struct second_verdict got =
+                    check_declaration(version, type, 0x80000000 | index << 16 | usage);
+                say(usage <= 13 ? got.number == 0 && got.instructions == 1
+                                : got.number == 7 && got.position == 2, "a usage with its index");
+            }
+        for (unsigned bit = 5; bit < 32; bit++) {
+            const struct second_verdict got =
+                check_declaration(version, type, 0x8001000A ^ UINT32_C(1) << bit);
+            say(bit >= 16 && bit <= 19 ? got.number == 0 && got.instructions == 1
+                                       : got.number == 7 && got.position == 2, "a bit of U");
         }
     }
 }
@@ -345,6 +395,11 @@ static const struct edit_piece edit_pieces[] = {
     /* 29 */
     {"V2 00000000 00000000 00000000 .", 2, 1, 4, "", JOINED, 0, 0,
      "V2 . 00000000 00000000 ."},
+    /* document 02, Q-6 */
+    {"P3 0200001F 80000005 900F0000 .", 0, 1, 4, "0200001F 8001000A 900F0000", JOINED, 0, 0,
+     "P3 0200001F 8001000A 900F0000 ."},
+    {"P3 0200001F 8001000A 900F0000 .", 0, 1, 4, "0200001F 8001000E 900F0000", REFUSED, 7, 2,
+     "P3 0200001F 8001000A 900F0000 ."},
     /* equal depth, other blocks */
     {"V3 01000028 E0E40800 0000002B .", 0, 1, 3, "01000026 F0E40000", REFUSED, 9, 3,
      "V3 01000028 E0E40800 0000002B ."},
@@ -399,7 +454,7 @@ static void run_records(void)
     uint32_t tokens[MOST], out[MOST];
     struct second_read read;
     struct second_written written;
-    const uint32_t V2 = 0xFFFE0200, V3 = 0xFFFE0300;
+    const uint32_t V2 = 0xFFFE0200, V3 = 0xFFFE0300, P3 = 0xFFFF0300;
 
     /* reading 19 */
     read = second_read(V2, NULL, 0, 0);
@@ -481,6 +536,17 @@ static void run_records(void)
     say(read.number == 0 && read.record.operands[0].raw == 0x80000000
             && read.record.operands[1].number == 3 && read.record.operands[1].type == 1, "read DCL");
 
+    /* document 02, Q-6 */
+    count = parse("0200001F 8001000A 900F0003", tokens);
+    read = second_read(P3, tokens, count, 0);
+    say(read.number == 0 && read.next == 3 && read.record.operands[0].raw == 0x8001000A
+            && read.record.operands[1].number == 3 && read.record.operands[1].type == 1, "read a second colour");
+    written = second_write(P3, &read.record, NULL, 0, out, 3, 0);
+    say(written.number == 0 && written.next == 3 && memcmp(out, tokens, 12) == 0, "write a second colour");
+    read.record.operands[0].raw = 0x8001000E;
+    written = second_write(P3, &read.record, NULL, 0, out, 3, 0);
+    say(written.number == 14 && memcmp(out, tokens, 12) == 0, "write usage 14");
+
     struct second_record end = {.opcode = 0xFFFF};
     out[3] = 5;
     written = second_write(V2, &end, NULL, 0, out, 3, 3);
@@ -495,6 +561,7 @@ static void run_records(void)
 int main(void)
 {
     run_checks();
+    run_usages();
     run_depth_and_length();
     run_edits();
     run_records();

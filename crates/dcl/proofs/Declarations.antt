@@ -8,10 +8,9 @@ use lib.Dec.{eqb}
 use lib.ListN.{length, getD}
 use borrow.Author.Tests.{ne-eqb}
 use Rattle.paper.specs.Notation.{pick, among}
-use Rattle.paper.specs.Versions.{isPixel}
 use Rattle.paper.specs.Numbers.{numberOf, toldToken}
 use Rattle.paper.specs.OperandTokens.{typeOf, refusedOperands, leftOver}
-use Rattle.paper.specs.Dcl.{samplerForm, plainForm, vertexUsage, pixelUsage, samplerTypes, plainTypes, usageTypes, isDeclared, formLaid, onDeclared, declaredAt, usageLaid, declaration}
+use Rattle.paper.specs.Dcl.{samplerForm, plainForm, usageForm, samplerTypes, plainTypes, usageTypes, isDeclared, formLaid, onDeclared, declaredAt, usageLaid, declaration}
 use Rattle.versions.specs.Rows.{formOf}
 use Rattle.paper.specs.declared.Version.{Version}
 use Rattle.paper.specs.declared.Reason.the-variants.{Size as SIZE, Operand as OPERAND}
@@ -67,9 +66,7 @@ module _ (v : Version) (type : ℕ) where
   form-by false false false a b c = refl
 
   pub form-laid : (token : ℕ) → formLaid v type token ≡
-      pick (eqb (formOf v type) 1) (samplerForm token)
-      (pick (eqb (formOf v type) 2) (plainForm token) (pick (isPixel v) (pixelUsage token) (vertexUsage token)))
+      pick (eqb (formOf v type) 1) (samplerForm token) (pick (eqb (formOf v type) 2) (plainForm token) (usageForm token))
   form-laid token =
       sym
-      (form-by (among type (samplerTypes v)) (among type (plainTypes v)) (among type (usageTypes v)) (samplerForm token) (plainForm token)
-      (pick (isPixel v) (pixelUsage token) (vertexUsage token)))
+      (form-by (among type (samplerTypes v)) (among type (plainTypes v)) (among type (usageTypes v)) (samplerForm token) (plainForm token) (usageForm token))

@@ -1,8 +1,8 @@
-// The operands of DCL: document 01, "DCL".
+// The operands of DCL: document 01, "DCL", with document 02's Q-6.
 ghost use mathlib.Core.Path.{_≡_};
 ghost use Rattle.paper.specs.Numbers.{toldToken};
 ghost use Rattle.paper.specs.OperandTokens.{typeOf};
-ghost use Rattle.paper.specs.Dcl.{samplerForm, usageForm, vertexUsage, pixelUsage, formLaid, isDeclared, positionOrFace, faceLaid, declaredAt, usageLaid, declaration};
+ghost use Rattle.paper.specs.Dcl.{samplerForm, usageForm, formLaid, isDeclared, positionOrFace, faceLaid, declaredAt, usageLaid, declaration};
 ghost use Rattle.told.specs.Numbered.{operandsNumber};
 ghost use Rattle.dcl.specs.Concluded.{concluded};
 use paper::Version;
@@ -19,23 +19,7 @@ fn sampler_form(usage: u32) -> bool
 fn usage_form(usage: u32) -> bool
     ensures { λ r. ⌜ r ≡ usageForm usage ⌝ }
 {
-    (usage / 0x20 % 0x800 == 0) & (usage / 0x10_0000 % 0x800 == 0)
-}
-
-fn vertex_usage(usage: u32) -> bool
-    ensures { λ r. ⌜ r ≡ vertexUsage usage ⌝ }
-{
-    let laid = usage_form(usage);
-    laid & (usage % 32 <= 13)
-}
-
-fn pixel_usage(usage: u32) -> bool
-    ensures { λ r. ⌜ r ≡ pixelUsage usage ⌝ }
-{
-    let laid = usage_form(usage);
-    laid
-        & (((usage % 32 == 5) & (usage / 0x1_0000 % 16 <= 7))
-            | ((usage % 32 == 10) & (usage / 0x1_0000 % 16 == 0)))
+    (usage / 0x20 % 0x800 == 0) & ((usage / 0x10_0000 % 0x800 == 0) & (usage % 32 <= 13))
 }
 
 // The form that goes with the destination's type: a sampler's, the plain one, or a usage.
@@ -49,10 +33,7 @@ fn form_laid(version: Version, destination: u32, usage: u32) -> bool
     if form == versions::PLAIN_FORM {
         return usage % 0x8000_0000 == 0;
     }
-    if versions::is_pixel(version) {
-        return pixel_usage(usage);
-    }
-    vertex_usage(usage)
+    usage_form(usage)
 }
 
 fn usage_laid(version: Version, destination: u32, usage: u32) -> bool

@@ -77,8 +77,31 @@ vectors =
     vector V2 (0x0100001F ∷ 0x00000000 ∷ []) 6 0 0 ∷
     -- the destination of a DCL comes first
     vector V2 (0x0300001F ∷ 0x00000000 ∷ 0x800F0000 ∷ 0x00000000 ∷ []) 8 2 0 ∷
-    -- position in P3
-    vector P3 (0x0200001F ∷ 0x80000000 ∷ 0x900F0000 ∷ []) 7 1 0 ∷
+    -- dcl_position v0
+    vector P3 (0x0200001F ∷ 0x80000000 ∷ 0x900F0000 ∷ []) 0 0 3 ∷
+    -- dcl_color1 v0
+    vector P3 (0x0200001F ∷ 0x8001000A ∷ 0x900F0000 ∷ []) 0 0 3 ∷
+    -- dcl_color1 t0
+    vector P3 (0x0200001F ∷ 0x8001000A ∷ 0xB00F0000 ∷ []) 0 0 3 ∷
+    -- the highest usage with the highest index
+    vector P3 (0x0200001F ∷ 0x800F000D ∷ 0x900F0000 ∷ []) 0 0 3 ∷
+    vector V3 (0x0200001F ∷ 0x800F000D ∷ 0xE00F0000 ∷ []) 0 0 3 ∷
+    vector V2 (0x0200001F ∷ 0x800F000D ∷ 0x900F0000 ∷ []) 0 0 3 ∷
+    -- usage 14
+    vector P3 (0x0200001F ∷ 0x8000000E ∷ 0x900F0000 ∷ []) 7 1 0 ∷
+    vector V2 (0x0200001F ∷ 0x8000000E ∷ 0x900F0000 ∷ []) 7 1 0 ∷
+    -- a usage form with its lowest and highest reserved bits, and without bit 31
+    vector P3 (0x0200001F ∷ 0x80000020 ∷ 0x900F0000 ∷ []) 7 1 0 ∷
+    vector P3 (0x0200001F ∷ 0x80008000 ∷ 0x900F0000 ∷ []) 7 1 0 ∷
+    vector P3 (0x0200001F ∷ 0x80100000 ∷ 0xB00F0000 ∷ []) 7 1 0 ∷
+    vector P3 (0x0200001F ∷ 0xC0000000 ∷ 0xB00F0000 ∷ []) 7 1 0 ∷
+    vector P3 (0x0200001F ∷ 0x0001000A ∷ 0x900F0000 ∷ []) 7 1 0 ∷
+    -- a usage where the form is plain
+    vector P2 (0x0200001F ∷ 0x80000005 ∷ 0x900F0000 ∷ []) 7 1 0 ∷
+    vector P2 (0x0200001F ∷ 0x8001000A ∷ 0xB00F0000 ∷ []) 7 1 0 ∷
+    vector P3 (0x0200001F ∷ 0x80000005 ∷ 0x900F1000 ∷ []) 7 1 0 ∷
+    -- type 6 is declared in V3 alone
+    vector P3 (0x0200001F ∷ 0x80000005 ∷ 0xE00F0000 ∷ []) 8 2 0 ∷
     -- dcl vPos.xy
     vector P3 (0x0200001F ∷ 0x80000000 ∷ 0x90031000 ∷ []) 0 0 3 ∷
     -- dcl vFace

@@ -1,10 +1,10 @@
--- Document 01, "DCL".
+-- Document 01, "DCL", with document 02's Q-6.
 use Prim.Native.Nat.{ℕ}
 use mathlib.Core.Bool.{Bool, not, _&&_, _||_}
 use mathlib.Core.List.{List, [], _∷_}
 use lib.Dec.{eqb, leb}
 use Rattle.paper.specs.Notation.{bits, bit, pick, among}
-use Rattle.paper.specs.Versions.{has, isPixel}
+use Rattle.paper.specs.Versions.{has}
 use Rattle.paper.specs.Places.{declared}
 use Rattle.paper.specs.OperandTokens.{numberField, typeOf, laid, layoutThenType, refusedOperands, leftOver}
 use Rattle.paper.specs.declared.Version.{Version}
@@ -21,25 +21,11 @@ samplerForm token = eqb (bits 26 0 token) 0 && (leb 2 (bits 30 27 token) && leb 
 abbrev pub plainForm : ℕ → Bool
 plainForm token = eqb (bits 30 0 token) 0
 
--- "Usage: 4:0 usage, 19:16 index, rest zero."
-abbrev pub usageOf : ℕ → ℕ
-usageOf token = bits 4 0 token
-
-abbrev pub indexOf : ℕ → ℕ
-indexOf token = bits 19 16 token
-
+-- "Usage: 4:0 usage, 19:16 index, rest zero. V2 and V3 type 1, V3 type 6: usage 0 to 13."
+-- Document 02, Q-6: "In P3, types 1 and 3, the usage token takes usage 0 to 13 with index 0 to 15, as in the vertex form."
+-- An index has four bits, so it is 0 to 15 of itself.
 abbrev pub usageForm : ℕ → Bool
-usageForm token = eqb (bits 15 5 token) 0 && eqb (bits 30 20 token) 0
-
--- "V2 and V3 type 1, V3 type 6: usage 0 to 13."
-abbrev pub vertexUsage : ℕ → Bool
-vertexUsage token = usageForm token && leb (usageOf token) 13
-
--- "P3 types 1, 3: usage 5 with index 0 to 7, or 10 with index 0."
-abbrev pub pixelUsage : ℕ → Bool
-pixelUsage token =
-    usageForm token
-    && ((eqb (usageOf token) 5 && leb (indexOf token) 7) || (eqb (usageOf token) 10 && eqb (indexOf token) 0))
+usageForm token = eqb (bits 15 5 token) 0 && (eqb (bits 30 20 token) 0 && leb (bits 4 0 token) 13)
 
 -- the types of each form
 abbrev pub samplerTypes : Version → List ℕ
@@ -76,8 +62,7 @@ declaredAt v token =
 abbrev pub formLaid : Version → ℕ → ℕ → Bool
 formLaid v type token =
     pick (among type (samplerTypes v)) (samplerForm token)
-    (pick (among type (plainTypes v)) (plainForm token)
-    (pick (isPixel v) (pixelUsage token) (vertexUsage token)))
+    (pick (among type (plainTypes v)) (plainForm token) (usageForm token))
 
 abbrev pub usageLaid : Version → ℕ → ℕ → Bool
 usageLaid v type token = eqb (bit 31 token) 1 && formLaid v type token

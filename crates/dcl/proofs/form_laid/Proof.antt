@@ -19,24 +19,7 @@ returns-2 c =
 returns-3 : tie.Need-returns-3
 returns-3 c =
     let s = c .before .before in
-    rw (
-      form-laid _ _ _,
-      ← (s .before .before .before .form-of .ensures),
-      ne-eqb _ _ (s .before .before .if1 .left),
-      ne-eqb _ _ (s .before .if2 .left),
-      sym (s .is-pixel .ensures) ∙ c .before .if3 .taken,
-    ) (c .pixel-usage .ensures)
-
-returns-4 : tie.Need-returns-4
-returns-4 c =
-    let s = c .before .before in
-    rw (
-      form-laid _ _ _,
-      ← (s .before .before .before .form-of .ensures),
-      ne-eqb _ _ (s .before .before .if1 .left),
-      ne-eqb _ _ (s .before .if2 .left),
-      sym (s .is-pixel .ensures) ∙ c .before .if3 .left,
-    ) (c .vertex-usage .ensures)
+    rw (form-laid _ _ _, ← (s .before .form-of .ensures), ne-eqb _ _ (s .if1 .left), ne-eqb _ _ (c .before .if2 .left)) (c .usage-form .ensures)
 
 pub form-laid-spec : {M : Type 1} → statement M
 form-laid-spec =
@@ -47,7 +30,4 @@ form-laid-spec =
     returns
     returns-2
     (λ c κs. search needs)
-    (λ c κs. search needs)
-    returns-3
-    (λ c κs. search needs)
-    returns-4)
+    returns-3)
