@@ -87,8 +87,9 @@ vectors =
     vector P3 (0x0200001F ∷ 0x800F000D ∷ 0x900F0000 ∷ []) 0 0 3 ∷
     vector V3 (0x0200001F ∷ 0x800F000D ∷ 0xE00F0000 ∷ []) 0 0 3 ∷
     vector V2 (0x0200001F ∷ 0x800F000D ∷ 0x900F0000 ∷ []) 0 0 3 ∷
-    -- usage 14
+    -- usages 14 and 16
     vector P3 (0x0200001F ∷ 0x8000000E ∷ 0x900F0000 ∷ []) 7 1 0 ∷
+    vector P3 (0x0200001F ∷ 0x80000010 ∷ 0x900F0000 ∷ []) 7 1 0 ∷
     vector V2 (0x0200001F ∷ 0x8000000E ∷ 0x900F0000 ∷ []) 7 1 0 ∷
     -- a usage form with its lowest and highest reserved bits, and without bit 31
     vector P3 (0x0200001F ∷ 0x80000020 ∷ 0x900F0000 ∷ []) 7 1 0 ∷

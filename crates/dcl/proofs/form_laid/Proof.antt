@@ -1,7 +1,7 @@
 use mathlib.Core.Path.{sym, _∙_}
 use native.Mathlib.Nat.{div-one}
 use borrow.Author.Needs.{needs}
-use borrow.Author.Tests.{eq-eqb, ne-eqb}
+use borrow.Author.Tests.{ne-eqb}
 use Rattle.dcl.proofs.Declarations.{form-laid}
 use Rattle.dcl.proofs.form_laid.Statement.{statement}
 use Rattle.dcl.proofs.form_laid.Tie as tie
