@@ -18,7 +18,6 @@ use Rattle.paper.specs.declared.Opener.{Opener}
 use Rattle.paper.specs.declared.Opener.the-variants.{If, Loop, Rep}
 use Rattle.paper.specs.declared.Closer.{Closer}
 use Rattle.paper.specs.declared.Closer.the-variants.{End}
-use Rattle.paper.specs.declared.Refusal.{Refusal}
 use Rattle.paper.specs.declared.Reason.the-variants.{Block as BLOCK, Depth as DEPTH}
 use Rattle.paper.specs.declared.Verdict.{Verdict}
 use Rattle.paper.specs.declared.Verdict.the-variants.{Accepted, Refused}

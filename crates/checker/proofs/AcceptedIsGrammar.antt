@@ -3,7 +3,6 @@ use Prim.Native.Nat.{ℕ}
 use mathlib.Core.Path.{_≡_, refl, ap, sym, _∙_}
 use mathlib.Core.Bool.{Bool, true, false}
 use mathlib.Core.List.{List}
-use native.Mathlib.Omega.{arith}
 use lib.ListN.{length, getD}
 use Rattle.paper.specs.Numbers.{told}
 use Rattle.paper.specs.Versions.{named}
@@ -11,8 +10,7 @@ use Rattle.paper.specs.Stream.{cutFrom, walked, lengthLaid, verdict, checked}
 use Rattle.paper.specs.declared.Version.{Version}
 use Rattle.paper.specs.declared.Named.{Named}
 use Rattle.paper.specs.declared.Named.the-variants.{Known, Unknown}
-use Rattle.paper.specs.declared.Refusal.{Refusal}
-use Rattle.paper.specs.declared.Verdict.the-variants.{Accepted, Refused}
+use Rattle.paper.specs.declared.Verdict.the-variants.{Accepted}
 use Rattle.blocks.proofs.WalkIsGrammar.{accepts, accepted}
 use Rattle.blocks.specs.Nesting.{countOf}
 use Rattle.blocks.proofs.Counting.{walked-nesting}

@@ -1,24 +1,22 @@
 -- From the body behind the version to the verdict of a stream.
 use Prim.Native.Nat.{ℕ, _+_, _<_, _≤_}
 use mathlib.Core.Path.{_≡_, refl, ap, sym, subst, _∙_}
-use mathlib.Core.Bool.{Bool, true, false, _&&_}
+use mathlib.Core.Bool.{Bool, true, false}
 use mathlib.Core.List.{List}
 use native.Mathlib.Omega.{arith}
-use lib.Dec.{ltb, leb}
-use lib.ListN.{length, drop, getD}
-use borrow.Author.Tests.{ltb-true, ltb-false, leb-true}
+use lib.Dec.{ltb}
+use lib.ListN.{length, drop}
+use borrow.Author.Tests.{ltb-true, ltb-false}
 use Rattle.paper.specs.Notation.{pick}
 use Rattle.paper.specs.Numbers.{refusal}
-use Rattle.paper.specs.Versions.{named}
 use Rattle.paper.specs.Instruction.{judged}
 use Rattle.paper.specs.Blocks.{Cut}
 use Rattle.paper.specs.Walk.{atEnd}
-use Rattle.paper.specs.Stream.{cutOne, cutFrom, walked, lengthLaid, verdict}
+use Rattle.paper.specs.Stream.{cutOne, cutFrom, walked}
 use Rattle.paper.specs.declared.Version.{Version}
-use Rattle.paper.specs.declared.Named.the-variants.{Known, Unknown}
 use Rattle.paper.specs.declared.Closer.{Closer}
 use Rattle.paper.specs.declared.Closer.the-variants.{Else, EndIf, EndLoop, EndRep, End}
-use Rattle.paper.specs.declared.Reason.the-variants.{Length as LENGTH, Version as VERSION, Tail as TAIL}
+use Rattle.paper.specs.declared.Reason.the-variants.{Tail as TAIL}
 use Rattle.paper.specs.declared.Refusal.{Refusal}
 use Rattle.paper.specs.declared.Judged.{Judged}
 use Rattle.paper.specs.declared.Judged.the-variants.{Good, Refused as Wrong}

@@ -10,12 +10,10 @@ use borrow.Author.Tests.{eqb-true, eqb-false}
 use Rattle.paper.specs.Versions.{versionToken}
 use Rattle.paper.specs.InstructionToken.{opcodeOf, commentLength, endOpcode, endToken}
 use Rattle.paper.specs.Instruction.{Head, end, tokenHead, claim, onClaimed, judged}
-use Rattle.paper.specs.Blocks.{classOf}
 use Rattle.paper.specs.Stream.{mostTokens}
 use Rattle.paper.specs.declared.Version.{Version}
 use Rattle.paper.specs.declared.Class.{Class}
-use Rattle.paper.specs.declared.Class.the-variants.{One, Closes}
-use Rattle.paper.specs.declared.Single.the-variants.{Comment}
+use Rattle.paper.specs.declared.Class.the-variants.{Closes}
 use Rattle.paper.specs.declared.Closer.the-variants.{End}
 use Rattle.paper.specs.declared.Judged.the-variants.{Good}
 use Rattle.blocks.specs.Begins.{endsStream}

@@ -9,17 +9,15 @@ use lib.ListN.{length, take, drop, getD, List·getD-append}
 use lib.Seq.{getD-take, length-take-le}
 use borrow.Author.Tests.{leb-true, le-leb}
 use Rattle.paper.specs.Notation.{pick}
-use Rattle.paper.specs.Numbers.{refusal}
 use Rattle.paper.specs.Versions.{named}
 use Rattle.paper.specs.Walk.{Kind}
 use Rattle.paper.proofs.StreamVerdict.{verdict-walked}
-use Rattle.paper.specs.Stream.{walked, verdict, mostTokens, lengthLaid, onNamed as verdictNamed}
+use Rattle.paper.specs.Stream.{walked, verdict, mostTokens, lengthLaid}
 use Rattle.paper.specs.declared.Version.{Version}
 use Rattle.paper.specs.declared.Named.{Named}
 use Rattle.paper.specs.declared.Named.the-variants.{Known, Unknown}
 use Rattle.paper.specs.declared.Reason.{Reason}
 use Rattle.paper.specs.declared.Reason.the-variants.{Length as LENGTH, Version as VERSION, Place as PLACE, Room as ROOM}
-use Rattle.paper.specs.declared.Verdict.the-variants.{Refused as no-verdict}
 use Rattle.edit.specs.declared.Edited.{Edited}
 use Rattle.edit.specs.declared.Edited.the-variants.{Joined, Accepted}
 use Rattle.edit.specs.Boundaries.{standsWith, standingAt, isBoundary}

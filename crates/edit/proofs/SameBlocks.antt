@@ -1,6 +1,6 @@
 -- The test of the open blocks says yes exactly of equal ones.
 use mathlib.Core.Path.{_≡_, refl, ap, sym}
-use mathlib.Core.Bool.{Bool, true, false, _&&_}
+use mathlib.Core.Bool.{true}
 use mathlib.Core.List.{List, [], _∷_}
 use Rattle.paper.specs.Walk.{Kind, opened, pastElse}
 use Rattle.paper.specs.declared.Opener.{Opener}

@@ -1,5 +1,5 @@
 -- The records of a cutting that are neither a comment's nor END's are as many as its instructions.
-use mathlib.Core.Path.{_≡_, refl, sym, ap, _∙_}
+use mathlib.Core.Path.{_≡_, sym, ap, _∙_}
 use mathlib.Core.List.{List, _∷_}
 use Prim.Native.Nat.{ℕ, suc}
 use lib.ListN.{length, take}

@@ -1,5 +1,5 @@
 -- What a first token says, and of which tokens it says so: the one way to go by what a head is.
-use Prim.Native.Nat.{ℕ, suc, _/_, _<_, _≤_}
+use Prim.Native.Nat.{ℕ, _/_, _<_}
 use mathlib.Core.Path.{_≡_, refl, ap}
 use mathlib.Core.Bool.{Bool, true, false}
 use mathlib.Core.List.{List}
@@ -8,7 +8,7 @@ use native.Mathlib.Omega.{arith}
 use lib.Dec.{eqb, lit<}
 use borrow.Author.Tests.{eqb-true, eqb-false, ne-eqb}
 use Rattle.paper.specs.Notation.{pick}
-use Rattle.paper.specs.InstructionToken.{opcodeOf, statedSize, bitsLaid, commentOpcode, commentLaid, commentLength, endOpcode, endToken, isPredicated, withPredicate}
+use Rattle.paper.specs.InstructionToken.{opcodeOf, bitsLaid, commentOpcode, commentLaid, commentLength, endOpcode, endToken, isPredicated, withPredicate}
 use Rattle.paper.specs.Instruction.{claimed, Head, broken, end, comment, operation, headOf, tokenHead, claim}
 use Rattle.paper.specs.Places.{Entry, absent, listed, entryOf, Place}
 use Rattle.paper.specs.declared.Version.{Version}

@@ -16,7 +16,7 @@ use Rattle.paper.specs.OperandTokens.{typeOf, laid, typed, layoutThenTyp
 use Rattle.paper.specs.Dcl.{isDeclared, faceLaid, declaredAt, usageLaid, onDeclared, declaration}
 use Rattle.paper.specs.InstructionToken.{opcodeOf, isPredicated, withPredicate}
 use Rattle.paper.specs.Blocks.{classOf}
-use Rattle.paper.specs.Instruction.{claimed, Head, broken, end, comment, operation, tokenHead, onToken, relativeToken, operand, onTaken, operands, operandsOf, onOperands, claim, onClaimed, judged}
+use Rattle.paper.specs.Instruction.{claimed, Head, tokenHead, onToken, relativeToken, operand, onTaken, operands, operandsOf, onOperands, claim, onClaimed, judged}
 use Rattle.paper.specs.declared.Version.{Version}
 use Rattle.paper.specs.declared.Reason.{Reason}
 use Rattle.paper.specs.declared.Reason.the-variants.{Opcode as OPCODE, Bits as BITS, RunOut as RUN-OUT, Size as SIZE, Operand as OPERAND, Register as REGISTER}

@@ -1,6 +1,6 @@
 -- What is told of an answer leaves one answer: each definition of "The numbers given back" is one-to-one.
 use mathlib.Core.Path.{_≡_, refl, ap, sym, _∙_}
-use Prim.Native.Nat.{ℕ, suc, _<_}
+use Prim.Native.Nat.{suc, _<_}
 use native.Mathlib.Omega.{arith}
 use lib.Dec.{lit<}
 use Rattle.paper.specs.Versions.{named}

@@ -2,7 +2,7 @@
 use mathlib.Core.Path.{_≡_, refl, sym, ap, _∙_}
 use mathlib.Core.Bool.{true, false}
 use mathlib.Core.List.{List, _∷_}
-use Prim.Native.Nat.{ℕ, suc, _+_, _-_, _≤_, _<_}
+use Prim.Native.Nat.{ℕ, _+_, _-_, _≤_, _<_}
 use native.Mathlib.Numerals.{add-one}
 use native.Mathlib.Omega.{arith}
 use lib.ListN.{length, take, drop, getD, length-drop}
@@ -11,8 +11,6 @@ use borrow.Author.Tests.{lt-ltb}
 use Rattle.paper.specs.Numbers.{reasonBy}
 use Rattle.paper.specs.Instruction.{judged}
 use Rattle.paper.specs.declared.Version.{Version}
-use Rattle.paper.specs.declared.Class.{Class}
-use Rattle.paper.specs.declared.Refusal.{Refusal}
 use Rattle.paper.specs.declared.Judged.{Judged}
 use Rattle.paper.specs.declared.Judged.the-variants.{Good as Lawful, Refused as Unlawful}
 use Rattle.paper.proofs.Bools.{apart}

@@ -2,7 +2,7 @@
 use mathlib.Core.Path.{_≡_, refl, sym}
 use mathlib.Core.Bool.{Bool, true, false, _||_}
 use mathlib.Core.List.{[], _∷_}
-use Prim.Native.Nat.{ℕ, zero, suc, _*_, _/_, _%_, _^_, _<_, _≤_}
+use Prim.Native.Nat.{ℕ, zero, suc, _*_, _%_, _^_, _<_, _≤_}
 use native.Mathlib.Nat.{one-mul, mod-eq-of-lt, pow-le-pow-right}
 use native.Mathlib.Omega.{arith}
 use lib.Dec.{eqb, leb, lit<}

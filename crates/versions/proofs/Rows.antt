@@ -1,6 +1,6 @@
 -- What the number of a version tells: each field by one test that is computed.
 use Prim.Native.Nat.{ℕ, _*_, _/_, _%_, _^_, _<_}
-use mathlib.Core.Path.{_≡_, refl}
+use mathlib.Core.Path.{refl}
 use mathlib.Core.Bool.{Bool}
 use lib.Dec.{eqb, ltb}
 use borrow.Author.Tests.{eqb-true, ltb-true}

@@ -1,12 +1,12 @@
 -- Tokens stored in a room one after the other, and at a place of a buffer.
 use mathlib.Core.Path.{_≡_, refl, sym, ap, _∙_}
 use mathlib.Core.Bool.{Bool, true, false}
-use mathlib.Core.List.{List, [], _∷_, _++_, append-assoc, append-nil, map-append}
-use Prim.Native.Nat.{ℕ, zero, suc, _+_, _-_, _≤_}
+use mathlib.Core.List.{List, [], _∷_, _++_, append-assoc, map-append}
+use Prim.Native.Nat.{ℕ, _+_, _-_, _≤_}
 use native.Mathlib.Omega.{arith}
 use lib.Dec.{leb}
-use lib.ListN.{length, take, drop, set, length-set, length-drop, length-append, length-map, drop-of-length-le}
-use lib.Seq.{sets, sets-eq, length-sets, take-all}
+use lib.ListN.{length, take, drop, set, length-set, length-append, length-map}
+use lib.Seq.{sets, sets-eq, length-sets}
 use borrow.Author.Tests.{leb-true, leb-false, le-leb, lt-leb}
 use borrow.Rule.Slice.PartMut.{midOf, putMid, mid-len}
 use Rattle.lists.proofs.Stores.{sets-append, sets-before, lent-stored}

@@ -1,10 +1,10 @@
 use Prim.Native.Nat.{_%_, _^_}
 use native.Mathlib.Omega.{arith}
 use mathlib.Core.Path.{sym, ap, _∙_}
-use lib.ListN.{length, take}
+use lib.ListN.{take}
 use lib.Seq.{length-take-le}
 use borrow.Author.Tests.{lt-leb, le-leb}
-use Rattle.paper.specs.InstructionToken.{opcodeOf, statedSize}
+use Rattle.paper.specs.InstructionToken.{opcodeOf}
 use Rattle.paper.specs.Instruction.{operandsOf}
 use Rattle.paper.specs.Blocks.{classOf}
 use Rattle.told.specs.Numbered.{yesNumber}

@@ -1,5 +1,5 @@
 use borrow.Author.Needs.{needs}
-use borrow.Author.Tests.{eq-eqb, ne-eqb}
+use borrow.Author.Tests.{ne-eqb}
 use Rattle.versions.proofs.Types.{relative-type}
 use Rattle.versions.proofs.relative_typed.Statement.{statement}
 use Rattle.versions.proofs.relative_typed.Tie as tie
