@@ -17,6 +17,7 @@ use Rattle.edit.specs.Edit.{splice}
 use Rattle.edit.proofs.Prefix.{splice-length}
 use Rattle.walk.specs.declared.State.{State}
 use Rattle.walk.specs.Steps.{onJudged}
+use Rattle.walk.specs.Shown.{mostShown}
 use Rattle.walk.specs.Stands.{stepAt}
 use Rattle.walk.proofs.Telling.{whole-moves, far-moves, end-moves}
 use Rattle.editor.specs.Steps.{behindRun}
@@ -29,15 +30,15 @@ step-there v s t at state e = whole-moves v state s at ∙ ap (λ (x : List ℕ)
 
 -- and in a part of so many tokens, where sixteen from the instruction on are in the part, or all that are there
 step-part : (v : Version) (s : List ℕ) (start n beyond at : ℕ) (state : State) → start + n + beyond ≡ length s → at < n →
-    (n < at + 16 → beyond ≡ 0) → start + at ≡ state .at →
+    (n < at + mostShown → beyond ≡ 0) → start + at ≡ state .at →
     onJudged (judgedFrom (toldAt v (take n (drop start s)) beyond at)) state ≡ stepAt v s state
 unfolding stepAt
-step-part v s start n beyond at state inside h all place = rw place at (by (leb (at + 16) n) refl)
+step-part v s start n beyond at state inside h all place = rw place at (by (leb (at + mostShown) n) refl)
   where
-    by : (b : Bool) → leb (at + 16) n ≡ b →
+    by : (b : Bool) → leb (at + mostShown) n ≡ b →
         onJudged (judgedFrom (toldAt v (take n (drop start s)) beyond at)) state ≡ onJudged (judged v (drop (start + at) s)) state
-    by true e = far-moves v state s start n beyond inside at h (leb-true (at + 16) n e)
-    by false e = end-moves v state s start n beyond inside at h (all (leb-false (at + 16) n e))
+    by true e = far-moves v state s start n beyond inside at h (leb-true (at + mostShown) n e)
+    by false e = end-moves v state s start n beyond inside at h (all (leb-false (at + mostShown) n e))
 
 module _ (run old : List ℕ) (j : ℕ) where
   pub behind-length : length (behindRun run old j) ≡ length run + (length old - j)
@@ -79,7 +80,7 @@ module _ (run old : List ℕ) (j : ℕ) where
           step-there v old (splice old i j run) (j + (k - length run)) state (rw place at same)
 
       -- the step over the run alone
-      pub step-in-run : state .at - i + 16 ≤ length run →
+      pub step-in-run : state .at - i + mostShown ≤ length run →
           onJudged (judgedFrom (toldAt v run (length old - j) (state .at - i))) state ≡ stepAt v (splice old i j run) state
       step-in-run far =
           let stream = splice old i j run in
@@ -91,7 +92,7 @@ module _ (run old : List ℕ) (j : ℕ) where
 
       -- the step over the run and old tokens behind it, of which so many are shown
       pub step-gathered : (left shown : ℕ) (part : List ℕ) → state .at - i < length run →
-          left ≡ length run - (state .at - i) + (length old - j) → shown + (left - 16) ≡ left →
+          left ≡ length run - (state .at - i) + (length old - j) → shown + (left - mostShown) ≡ left →
           part ≡ take shown (drop (state .at - i) (behindRun run old j)) →
           onJudged (judgedFrom (toldAt v part (left - shown) 0)) state ≡ stepAt v (splice old i j run) state
       step-gathered left shown part within left-is shown-is part-is =

@@ -6,6 +6,7 @@ ghost use lib.ListN.{length, take, drop, getD};
 ghost use Rattle.paper.specs.Numbers.{refusal};
 ghost use Rattle.paper.specs.Stream.{mostTokens};
 ghost use Rattle.edit.specs.Edit.{splice, newLength, onVerdict, spliced, edited, editedIn, bufferAfter, toldEdit};
+ghost use Rattle.walk.specs.Shown.{mostShown};
 ghost use Rattle.walk.specs.Stands.{Stands, stepAt};
 ghost use Rattle.editor.specs.Steps.{behindRun};
 ghost use Rattle.editor.specs.Found.{FoundAt, Between, InSplice};
@@ -75,7 +76,7 @@ fn gather(window: &mut [u32], run: &[u32], old: &[u32], j: usize, from: usize, n
 
 // How many tokens of an instruction are shown, where so many are left from its first one on: all but those past the sixteenth.
 fn shown_of(left: usize) -> usize
-    ensures { λ r. ⌜ r + (left - 16) ≡ left ⌝ }
+    ensures { λ r. ⌜ r + (left - mostShown) ≡ left ⌝ }
 {
     if left < walk::MOST_SHOWN {
         return left;
@@ -94,7 +95,7 @@ fn step_spliced(
     state: State,
     window: &mut [u32],
 ) -> Step
-    requires { ⌜ InSplice (now old) i j (now run) (state .at) × (length (now window) ≡ 16) ⌝ }
+    requires { ⌜ InSplice (now old) i j (now run) (state .at) × (length (now window) ≡ mostShown) ⌝ }
     ensures { λ r. ⌜ r ≡ stepAt version (splice (now (old .entry)) i j (now (run .entry))) state ⌝ }
 {
     let at = state.at - i;

@@ -19,7 +19,7 @@ use Rattle.paper.proofs.FirstToken.{Says, is-broken, is-comment, is-end, is-lis
 use Rattle.paper.proofs.OwnTokens.{operands-good, good-claim}
 use Rattle.opcodes.proofs.Shapes.{unpredicated, row-unpredicated}
 use Rattle.records.specs.declared.Operand.{Operand}
-use Rattle.records.specs.Record.{noOperand, inOrder, predicateOr, padded, arrayOf, recordOn, recordOf}
+use Rattle.records.specs.Record.{predicateSlot, noOperand, inOrder, predicateOr, padded, arrayOf, recordOn, recordOf}
 use Rattle.records.specs.ByClass.{ordered}
 use Rattle.records.proofs.Passed.{AllPassed}
 use Rattle.records.proofs.Rows.{row-few, row-passed}
@@ -40,12 +40,12 @@ padded-length zero operands = refl
 padded-length (suc n) [] = ap suc (padded-length n [])
 padded-length (suc n) (operand ∷ operands) = ap suc (padded-length n operands)
 
-behind-back : {v : Version} (row : List Place) (tokens : List ℕ) → AllPassed v row tokens → Words tokens → ordered row ≤ 5 → single row ≡ true →
-    rowTokens row (arrayOf row tokens) (getD (arrayOf row tokens) 5 noOperand) ≡ tokens
+behind-back : {v : Version} (row : List Place) (tokens : List ℕ) → AllPassed v row tokens → Words tokens → ordered row ≤ predicateSlot → single row ≡ true →
+    rowTokens row (arrayOf row tokens) (getD (arrayOf row tokens) predicateSlot noOperand) ≡ tokens
 unfolding arrayOf
 behind-back row tokens passed words few once =
-    rw (getD-at (padded 5 (inOrder row tokens)) (predicateOr noOperand row tokens) [] noOperand 5 (padded-length 5 (inOrder row tokens)))
-    (row-back passed words 5 few once (predicateOr noOperand row tokens ∷ []) noOperand)
+    rw (getD-at (padded predicateSlot (inOrder row tokens)) (predicateOr noOperand row tokens) [] noOperand predicateSlot (padded-length predicateSlot (inOrder row tokens)))
+    (row-back passed words predicateSlot few once (predicateOr noOperand row tokens ∷ []) noOperand)
 
 module _ (v : Version) (first : ℕ) (rest : List ℕ) (word : first < 2 ^ 32) (words : Words rest) (size : ℕ) (class : Class) (there : size ≤ length rest) where
   back-by : (h : Head) → Says v first h → claim h ≡ size → onClaimed v h (opcodeOf first) (take size rest) ≡ Lawful size class →

@@ -10,7 +10,7 @@ use Rattle.paper.specs.declared.Version.{Version}
 use Rattle.paper.specs.Places.{Entry, absent, listed, entryOf, Place, isRaw, isPredicate}
 use Rattle.records.specs.declared.Operand.{Operand}
 use Rattle.records.specs.declared.Record.{Record}
-use Rattle.records.specs.Record.{noOperand}
+use Rattle.records.specs.Record.{predicateSlot, noOperand}
 
 -- each token is a number of 32 bits
 unfoldable pub Words : List ℕ → Type 0
@@ -57,7 +57,7 @@ abbrev pub recordPlaces : Record → List Place → List Place
 recordPlaces r places = withPredicate (eqb (r .predicated) 1) places
 
 abbrev pub tokensBehind : Record → List Place → List ℕ
-tokensBehind r places = rowTokens places (r .operands) (getD (r .operands) 5 noOperand)
+tokensBehind r places = rowTokens places (r .operands) (getD (r .operands) predicateSlot noOperand)
 
 abbrev pub listedTokens : Record → Entry → List ℕ
 listedTokens r absent = []

@@ -12,7 +12,7 @@ use Rattle.paper.specs.Places.{Place, isPredicate}
 use Rattle.places.specs.Places.{placeBy, decoded}
 use Rattle.places.proofs.Decoding.{decoded-zero, decoded-step}
 use Rattle.records.specs.declared.Operand.{Operand}
-use Rattle.records.specs.Record.{noOperand, operandOf, widthAt, operandAt, inOrder, predicateOr, padded, arrayOf}
+use Rattle.records.specs.Record.{operandCount, predicateSlot, noOperand, operandOf, widthAt, operandAt, inOrder, predicateOr, padded, arrayOf}
 use Rattle.records.specs.ByClass.{widthOf, ordered}
 
 -- one operand, by the place of its token
@@ -50,14 +50,14 @@ unfoldable pub filled : List Place → ℕ → List ℕ → List Operand → Lis
 filled [] held tokens operands = operands
 filled (place ∷ places) held tokens operands =
     filled places (pick (isPredicate place) held (held + 1)) (drop (widthAt place tokens) tokens)
-    (set operands (pick (isPredicate place) 5 held) (operandAt place tokens))
+    (set operands (pick (isPredicate place) predicateSlot held) (operandAt place tokens))
 
 module _ (front : List Operand) (p operand : Operand) where
-  at-predicate : (m : ℕ) → length front + m ≡ 5 →
-      set (front ++ (padded m [] ++ (p ∷ []))) 5 operand ≡ front ++ (padded m [] ++ (operand ∷ []))
+  at-predicate : (m : ℕ) → length front + m ≡ predicateSlot →
+      set (front ++ (padded m [] ++ (p ∷ []))) predicateSlot operand ≡ front ++ (padded m [] ++ (operand ∷ []))
   at-predicate m s =
       rw (← append-assoc front (padded m []) (p ∷ []), ← append-assoc front (padded m []) (operand ∷ []))
-      (set-at (front ++ padded m []) p [] operand 5 (length-append front (padded m []) ∙ rw (padded-length m) s))
+      (set-at (front ++ padded m []) p [] operand predicateSlot (length-append front (padded m []) ∙ rw (padded-length m) s))
     where
       padded-length : (n : ℕ) → length (padded n []) ≡ n
       padded-length zero = refl
@@ -65,13 +65,13 @@ module _ (front : List Operand) (p operand : Operand) where
 
 abbrev Fills : List Place → Type 0
 Fills places =
-    (front : List Operand) (k m : ℕ) (p : Operand) (tokens : List ℕ) → length front ≡ k → k + m ≡ 5 → ordered places ≤ m →
+    (front : List Operand) (k m : ℕ) (p : Operand) (tokens : List ℕ) → length front ≡ k → k + m ≡ predicateSlot → ordered places ≤ m →
     filled places k tokens (front ++ (padded m [] ++ (p ∷ []))) ≡
     front ++ (padded m (inOrder places tokens) ++ (predicateOr p places tokens ∷ []))
 
 module _ (places : List Place) (later : Fills places) (front : List Operand) (k : ℕ) (p operand : Operand) (tokens : List ℕ) (e : length front ≡ k) where
-  fills-one : (isPredicate : Bool) (m : ℕ) → k + m ≡ 5 → pick isPredicate (ordered places) (suc (ordered places)) ≤ m →
-      filled places (pick isPredicate k (k + 1)) tokens (set (front ++ (padded m [] ++ (p ∷ []))) (pick isPredicate 5 k) operand) ≡
+  fills-one : (isPredicate : Bool) (m : ℕ) → k + m ≡ predicateSlot → pick isPredicate (ordered places) (suc (ordered places)) ≤ m →
+      filled places (pick isPredicate k (k + 1)) tokens (set (front ++ (padded m [] ++ (p ∷ []))) (pick isPredicate predicateSlot k) operand) ≡
       front
       ++ (padded m (pick isPredicate (inOrder places tokens) (operand ∷ inOrder places tokens))
       ++ (predicateOr (pick isPredicate operand p) places tokens ∷ []))
@@ -88,17 +88,17 @@ fills [] front k m p tokens e s h = refl
 fills (place ∷ places) front k m p tokens e s h =
     fills-one places (fills places) front k p (operandAt place tokens) (drop (widthAt place tokens) tokens) e (isPredicate place) m s h
 
-pub filled-array : (places : List Place) (tokens : List ℕ) → ordered places ≤ 5 → filled places 0 tokens (padded 6 []) ≡ arrayOf places tokens
+pub filled-array : (places : List Place) (tokens : List ℕ) → ordered places ≤ predicateSlot → filled places 0 tokens (padded operandCount []) ≡ arrayOf places tokens
 unfolding arrayOf
-filled-array places tokens h = fills places [] 0 5 noOperand tokens refl refl h
+filled-array places tokens h = fills places [] 0 predicateSlot noOperand tokens refl refl h
 
 -- the array has a place for one operand more
 module _ (held rest : ℕ) where
-  slot-there : (b : Bool) → held + pick b rest (suc rest) ≤ 5 → pick b 5 held < 6
+  slot-there : (b : Bool) → held + pick b rest (suc rest) ≤ predicateSlot → pick b predicateSlot held < operandCount
   slot-there true h = omega arith
   slot-there false h = omega arith
 
-  count-on : (b : Bool) → held + pick b rest (suc rest) ≤ 5 → pick b held (held + 1) + rest ≤ 5
+  count-on : (b : Bool) → held + pick b rest (suc rest) ≤ predicateSlot → pick b held (held + 1) + rest ≤ predicateSlot
   count-on true h = h
   count-on false h = omega arith
 
@@ -108,14 +108,14 @@ module _ (left : ℕ) (fits : left < 2 ^ 64) (some : left ≡ 0 → ⊥) where
   unfolding ordered
   ordered-first = rw (decoded-step left fits some)
 
-  module _ (held : ℕ) (few : held + ordered (decoded left) ≤ 5) where
-    pub slot-fits : pick (isPredicate (placeBy (left % 128))) 5 held < 6
+  module _ (held : ℕ) (few : held + ordered (decoded left) ≤ predicateSlot) where
+    pub slot-fits : pick (isPredicate (placeBy (left % 128))) predicateSlot held < operandCount
     slot-fits = slot-there held (ordered (decoded (left / 128))) (isPredicate (placeBy (left % 128))) (rw ordered-first at few)
 
-    pub held-few : held ≤ 5
+    pub held-few : held ≤ predicateSlot
     held-few = omega arith
 
-    pub held-on : pick (isPredicate (placeBy (left % 128))) held (held + 1) + ordered (decoded (left / 128)) ≤ 5
+    pub held-on : pick (isPredicate (placeBy (left % 128))) held (held + 1) + ordered (decoded (left / 128)) ≤ predicateSlot
     held-on = count-on held (ordered (decoded (left / 128))) (isPredicate (placeBy (left % 128))) (rw ordered-first at few)
 
   pub width-first : (at : ℕ) (behind : List ℕ) →
@@ -127,7 +127,7 @@ module _ (left : ℕ) (fits : left < 2 ^ 64) (some : left ≡ 0 → ⊥) where
 
   pub filled-on : (at held : ℕ) (behind : List ℕ) (operands : List Operand) →
       filled (decoded (left / 128)) (pick (isPredicate (placeBy (left % 128))) held (held + 1)) (drop (at + widthAt (placeBy (left % 128)) (drop at behind)) behind)
-      (set operands (pick (isPredicate (placeBy (left % 128))) 5 held) (operandAt (placeBy (left % 128)) (drop at behind))) ≡
+      (set operands (pick (isPredicate (placeBy (left % 128))) predicateSlot held) (operandAt (placeBy (left % 128)) (drop at behind))) ≡
       filled (decoded left) held (drop at behind) operands
   unfolding filled
   filled-on at held behind operands =

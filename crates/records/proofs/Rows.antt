@@ -19,6 +19,7 @@ use Rattle.paper.specs.declared.Version.the-variants.{V2, V3, P2, P3}
 use Rattle.paper.specs.declared.Operands.the-variants.{Fit}
 use Rattle.paper.proofs.Bools.{apart}
 use Rattle.opcodes.proofs.Shapes.{few}
+use Rattle.records.specs.Record.{predicateSlot}
 use Rattle.records.specs.ByClass.{ordered}
 use Rattle.records.proofs.Passed.{AllPassed, all-passed}
 use Rattle.records.proofs.Declared.{declaredRow, declared-passed}
@@ -59,7 +60,7 @@ module _ (v : Version) (token : ℕ) (places : List Place) (e : entryOf v (opcod
       let none : bit 28 token ≡ 0 = eqb-true _ _ (only-zero (eqb (bits 31 29 token) 0) (controlsLaid DCL (controlsOf token)) (eqb (bit 28 token) 0) (hasPredicates v) (hasDestination places) (rw d at laid)) in
       rw (none, row)
 
-  pub row-few : ordered (withPredicate (isPredicated token) places) ≤ 5
+  pub row-few : ordered (withPredicate (isPredicated token) places) ≤ predicateSlot
   row-few = omega (arith, ordered-predicated (isPredicated token) places, few v (opcodeOf token) places e)
 
   pub row-passed : (behind : List ℕ) → operandsOf v (opcodeOf token) (withPredicate (isPredicated token) places) behind ≡ Fit →

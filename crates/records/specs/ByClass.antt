@@ -15,7 +15,7 @@ use Rattle.opcodes.specs.Classes.{classNumber}
 use Rattle.opcodes.specs.Shape.{shapeOf}
 use Rattle.instruction_token.specs.ByShape.{placesBy}
 use Rattle.records.specs.declared.Record.{Record}
-use Rattle.records.specs.Record.{widthAt, arrayOf, endRecord, commentRecord, instructionRecord}
+use Rattle.records.specs.Record.{predicateSlot, widthAt, arrayOf, endRecord, commentRecord, instructionRecord}
 
 -- a comment's class, END's, or that of an instruction of the table
 abbrev pub byClass : {A : Type 0} → ℕ → A → A → A → A
@@ -46,4 +46,4 @@ ordered (place ∷ places) = pick (isPredicate place) (ordered places) (suc (ord
 -- the tokens of a row are there, and the array has a place for each operand
 pub record Readable (places : List Place) (tokens : List ℕ) : Type 0 where
   pub there : widthOf places tokens ≤ length tokens
-  pub few : ordered places ≤ 5
+  pub few : ordered places ≤ predicateSlot

@@ -109,13 +109,19 @@ padded zero operands = []
 padded (suc n) [] = noOperand ∷ padded n []
 padded (suc n) (operand ∷ operands) = operand ∷ padded n operands
 
--- "a fixed array of operands": five in token order, and the predicate's behind them
+-- "a fixed array of operands": so many, those in token order first, and the predicate's behind them
+abbrev pub operandCount : ℕ
+operandCount = 6
+
+abbrev pub predicateSlot : ℕ
+predicateSlot = 5
+
 unfoldable pub arrayOf : List Place → List ℕ → List Operand
-arrayOf places tokens = padded 5 (inOrder places tokens) ++ (predicateOr noOperand places tokens ∷ [])
+arrayOf places tokens = padded predicateSlot (inOrder places tokens) ++ (predicateOr noOperand places tokens ∷ [])
 
 -- a record without operands
 abbrev pub emptyRecord : ℕ → ℕ → Record
-emptyRecord opcode n = record { opcode = opcode; controls = 0; predicated = 0; extent = n; operands = padded 6 [] }
+emptyRecord opcode n = record { opcode = opcode; controls = 0; predicated = 0; extent = n; operands = padded operandCount [] }
 
 abbrev pub noRecord : Record
 noRecord = emptyRecord 0 0

@@ -5,7 +5,7 @@ ghost use lib.ListN.{length, drop};
 ghost use Rattle.paper.specs.Notation.{pick};
 ghost use Rattle.paper.specs.Places.{isPredicate};
 ghost use Rattle.places.specs.Places.{placeBy, decoded};
-ghost use Rattle.records.specs.Record.{rawOperand, destinationOperand, sourceOperand, operandOf, widthAt, operandAt, arrayOf, emptyRecord, noRecord, instructionRecord};
+ghost use Rattle.records.specs.Record.{predicateSlot, rawOperand, destinationOperand, sourceOperand, operandOf, widthAt, operandAt, arrayOf, emptyRecord, noRecord, instructionRecord};
 ghost use Rattle.records.specs.ByClass.{rowBy, recordBy, Readable};
 use paper::Version;
 
@@ -135,7 +135,7 @@ fn read_operand(place: u64, behind: &[u32], at: usize) -> Step
 
 // Where the array holds the operand of a place, if it holds so many in token order.
 fn slot_of(place: u64, held: usize) -> usize
-    ensures { λ r. ⌜ r ≡ pick (isPredicate (placeBy place)) 5 held ⌝ }
+    ensures { λ r. ⌜ r ≡ pick (isPredicate (placeBy place)) predicateSlot held ⌝ }
 {
     if place == places::PREDICATE {
         PREDICATE_SLOT
@@ -145,7 +145,7 @@ fn slot_of(place: u64, held: usize) -> usize
 }
 
 fn count_with(place: u64, held: usize) -> usize
-    requires { ⌜ held ≤ 5 ⌝ }
+    requires { ⌜ held ≤ predicateSlot ⌝ }
     ensures { λ r. ⌜ r ≡ pick (isPredicate (placeBy place)) held (held + 1) ⌝ }
 {
     if place == places::PREDICATE {

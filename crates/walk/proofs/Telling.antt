@@ -10,6 +10,7 @@ use Rattle.told.specs.Numbered.{judgedNumber, judgedFrom}
 use Rattle.stretches.specs.Stretch.{toldAt}
 use Rattle.told.proofs.Numbers.{judged-back}
 use Rattle.stretches.proofs.Stretches.{told-whole, told-far, told-end}
+use Rattle.walk.specs.Shown.{mostShown}
 use Rattle.walk.specs.declared.State.{State}
 use Rattle.walk.specs.Steps.{onJudged}
 
@@ -24,7 +25,7 @@ module _ (v : Version) (state : State) (s : List ℕ) where
 
   -- an instruction of a part of n tokens from `start` on, behind which at least fifteen tokens are shown, or all
   module _ (start n beyond : ℕ) (inside : start + n + beyond ≡ length s) (at : ℕ) (h : at < n) where
-    pub far-moves : at + 16 ≤ n →
+    pub far-moves : at + mostShown ≤ n →
         onJudged (judgedFrom (toldAt v (take n (drop start s)) beyond at)) state ≡ onJudged (judged v (drop (start + at) s)) state
     far-moves far =
         told-moves state (toldAt v (take n (drop start s)) beyond at) (judged v (drop (start + at) s)) (told-far v s start n beyond inside at h far)

@@ -21,9 +21,9 @@ use Rattle.opcodes.proofs.Shapes.{shape-absent, shape-places, shape-step, few, 
 use Rattle.instruction_token.specs.ByShape.{placesBy}
 use Rattle.records.specs.declared.Operand.{Operand}
 use Rattle.records.specs.declared.Record.{Record}
-use Rattle.records.specs.Record.{instructionRecord}
+use Rattle.records.specs.Record.{operandCount, instructionRecord}
 use Rattle.record_tokens.specs.Tokens.{tokensOf}
-use Rattle.writer.specs.Row.{operandCount, rowNumber, rowOf, encodedBy, encodedTokens}
+use Rattle.writer.specs.Row.{rowNumber, rowOf, encodedBy, encodedTokens}
 
 -- what may be predicated has an operand
 some-place : (v : Version) (opcode : ℕ) (places : List Place) → mayBePredicated v opcode places ≡ true → length places ≡ 0 → ⊥

@@ -14,9 +14,8 @@ use Rattle.paper.specs.Places.{Place, isRaw, isPredicate}
 use Rattle.places.specs.Places.{placeBy, decoded}
 use Rattle.places.proofs.Decoding.{decoded-zero, decoded-step}
 use Rattle.records.specs.declared.Operand.{Operand}
-use Rattle.records.specs.Record.{noOperand}
+use Rattle.records.specs.Record.{operandCount, predicateSlot, noOperand}
 use Rattle.record_tokens.specs.Tokens.{tokenOf, middleOf, operandToken, relativeTokenOf, operandTokens, rowTokens}
-use Rattle.writer.specs.Row.{operandCount}
 
 -- one operand
 module _ (place : Place) (operand : Operand) where
@@ -50,9 +49,9 @@ module _ (left : ℕ) (fits : left < 2 ^ 64) (some : left ≡ 0 → ⊥) where
   places-step = rw (decoded-step left fits some)
 
   pub row-step : (held : ℕ) (operands : List Operand) (predicate : Bool) → predicate ≡ isPredicate (placeBy (left % 128)) →
-      rowTokens (decoded left) (drop held operands) (getD operands 5 noOperand) ≡
-      operandTokens (placeBy (left % 128)) (getD operands (pick predicate 5 held) noOperand)
-      ++ rowTokens (decoded (left / 128)) (drop (pick predicate held (held + 1)) operands) (getD operands 5 noOperand)
+      rowTokens (decoded left) (drop held operands) (getD operands predicateSlot noOperand) ≡
+      operandTokens (placeBy (left % 128)) (getD operands (pick predicate predicateSlot held) noOperand)
+      ++ rowTokens (decoded (left / 128)) (drop (pick predicate held (held + 1)) operands) (getD operands predicateSlot noOperand)
   unfolding rowTokens
   row-step held operands true is = rw (decoded-step left fits some, ← is)
   row-step held operands false is = rw (decoded-step left fits some, ← is, getD-drop held operands 0 noOperand, add-zero, drop-drop 1 held operands)
@@ -62,7 +61,7 @@ unfolding rowTokens
 row-none left operands p e = rw (e, decoded-zero)
 
 -- which operand of the array stands at a place, and how many are then held in token order
-pub slot-few : (predicate : Bool) (held slot : ℕ) → held ≤ 5 → slot ≡ pick predicate 5 held → slot ≤ 5
+pub slot-few : (predicate : Bool) (held slot : ℕ) → held ≤ predicateSlot → slot ≡ pick predicate predicateSlot held → slot ≤ predicateSlot
 slot-few true held slot h e = omega arith
 slot-few false held slot h e = omega arith
 

@@ -13,12 +13,10 @@ use Rattle.places.specs.Places.{decoded}
 use Rattle.opcodes.specs.Shape.{shapeOf, stepIn}
 use Rattle.instruction_token.specs.ByShape.{placesBy}
 use Rattle.records.specs.declared.Record.{Record}
+use Rattle.records.specs.Record.{operandCount}
 use Rattle.record_tokens.specs.Tokens.{instructionToken, tokensBehind}
 
--- a record's array has so many operands, and an instruction so many tokens at most: its first one, and two for each operand
-abbrev pub operandCount : ℕ
-operandCount = 6
-
+-- an instruction has so many tokens at most: its first one, and two for each operand
 abbrev pub mostEncoded : ℕ
 mostEncoded = 1 + 2 * operandCount
 

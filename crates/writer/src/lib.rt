@@ -9,12 +9,12 @@ ghost use Rattle.paper.specs.Notation.{pick};
 ghost use Rattle.paper.specs.Versions.{versionToken};
 ghost use Rattle.paper.specs.Numbers.{refusal};
 ghost use Rattle.places.specs.Places.{placeBy, decoded};
-ghost use Rattle.records.specs.Record.{noOperand};
+ghost use Rattle.records.specs.Record.{operandCount, predicateSlot, noOperand};
 ghost use Rattle.reader.specs.Reading.{reading};
 ghost use Rattle.record_tokens.specs.Tokens.{tokenOf, middleOf, operandTokens, rowTokens, headToken};
 ghost use Rattle.writer.specs.Same.{sameOperand, sameFields, sameRecord};
 ghost use Rattle.writer.specs.Buffer.{word, Put};
-ghost use Rattle.writer.specs.Row.{operandCount, mostEncoded, rowNumber, encodedTokens};
+ghost use Rattle.writer.specs.Row.{mostEncoded, rowNumber, encodedTokens};
 ghost use Rattle.writer.specs.Writing.{toldWriting, Writes};
 ghost use Rattle.writer.specs.Decided.{yieldedComment, gives, Encodes, room, contentAfter, writingIn, contentIn};
 use paper::Named;
@@ -164,7 +164,7 @@ fn choose(test: bool, first: usize, second: usize) -> usize
 // it: each is lent the remainder that the ones before it leave. How many tokens they take.
 fn put_row(room: &mut [u32], row: u64, operands: [Operand; records::OPERANDS]) -> usize
     requires { ⌜ (length (decoded row) ≤ operandCount) × (2 * operandCount ≤ length (now room)) ⌝ }
-    ensures { λ next. ⌜ Put (rowTokens (decoded row) operands (getD operands 5 noOperand)) (now (room .entry)) 0 next (now (room .exit)) × (next ≤ 2 * operandCount) ⌝ }
+    ensures { λ next. ⌜ Put (rowTokens (decoded row) operands (getD operands predicateSlot noOperand)) (now (room .entry)) 0 next (now (room .exit)) × (next ≤ 2 * operandCount) ⌝ }
 {
     let mut left = row;
     let mut next = 0;

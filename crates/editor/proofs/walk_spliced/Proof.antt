@@ -9,6 +9,7 @@ use Rattle.paper.specs.declared.Verdict.{Verdict}
 use Rattle.paper.proofs.OneToOne.{same-verdict}
 use Rattle.edit.specs.Edit.{splice, meetsAtEnd, onVerdict}
 use Rattle.edit.proofs.Prefix.{splice-length}
+use Rattle.walk.specs.Shown.{mostShown}
 use Rattle.walk.specs.Steps.{goesOn, verdictOf}
 use Rattle.walk.specs.Stands.{Stands, Comes}
 use Rattle.walk.proofs.OnStream.{step-comes}
@@ -21,7 +22,7 @@ use Rattle.editor.proofs.walk_spliced.Tie as tie
 
 abbrev Inv-loop : tie.InvT-loop
 Inv-loop version old last run i j end whole window₀ step₀ window step =
-    (length window ≡ 16)
+    (length window ≡ mostShown)
     × Comes version (splice old i j run) i step
     × (goesOn step (end + 1) ≡ false → meetsAtEnd version old i j run ≡ false)
 

@@ -4,7 +4,7 @@ use lib.ListN.{length, drop}
 use native.Mathlib.Omega.{arith}
 use borrow.Author.Needs.{needs}
 use Rattle.places.specs.Places.{decoded}
-use Rattle.records.specs.Record.{arrayOf}
+use Rattle.records.specs.Record.{predicateSlot, arrayOf}
 use Rattle.records.specs.ByClass.{widthOf, ordered}
 use Rattle.records.proofs.Filled.{filled, filled-array, filled-none, filled-on, width-first, slot-fits, held-few, held-on}
 use Rattle.records.proofs.read_operands.Statement.{statement}
@@ -14,7 +14,7 @@ abbrev Inv-loop : tie.InvT-loop
 Inv-loop places behind operands₀ left₀ at₀ held₀ operands left at held =
     (left ≤ places)
     × (at + widthOf (decoded left) (drop at behind) ≤ length behind)
-    × (held + ordered (decoded left) ≤ 5)
+    × (held + ordered (decoded left) ≤ predicateSlot)
     × (filled (decoded left) held (drop at behind) operands ≡ arrayOf (decoded places) behind)
 
 abbrev μ-loop : tie.MeasureT-loop

@@ -3,9 +3,8 @@ use native.Mathlib.Omega.{arith}
 use mathlib.Core.Path.{_≡_, refl, _∙_}
 use lib.ListN.{length, drop, getD}
 use Rattle.places.specs.Places.{placeBy, decoded}
-use Rattle.records.specs.Record.{noOperand}
+use Rattle.records.specs.Record.{operandCount, predicateSlot, noOperand}
 use Rattle.record_tokens.specs.Tokens.{rowTokens}
-use Rattle.writer.specs.Row.{operandCount}
 use Rattle.writer.proofs.Paste.{put-length, lent-length, put-on, Rest, rest-on, rest-none}
 use Rattle.writer.proofs.Row.{places-step, row-step, row-none, operand-few, slot-few, held-few}
 use borrow.Author.Needs.{needs}
@@ -18,13 +17,13 @@ Inv-loop room₀ row operands left₀ next₀ held₀ room left next held =
     × (length room ≡ length room₀)
     × (held + length (decoded left) ≤ operandCount)
     × (next + 2 * length (decoded left) ≤ 2 * operandCount)
-    × Rest (rowTokens (decoded row) operands (getD operands 5 noOperand)) room₀ (rowTokens (decoded left) (drop held operands) (getD operands 5 noOperand)) next room
+    × Rest (rowTokens (decoded row) operands (getD operands predicateSlot noOperand)) room₀ (rowTokens (decoded left) (drop held operands) (getD operands predicateSlot noOperand)) next room
 
 abbrev μ-loop : tie.MeasureT-loop
 μ-loop room₀ row operands left₀ next₀ held₀ room left next held = left
 
 -- the operand that stands at a place is one of the array's
-slot : (c : tie.After-choose Inv-loop μ-loop) → c .choose .result ≤ 5
+slot : (c : tie.After-choose Inv-loop μ-loop) → c .choose .result ≤ predicateSlot
 slot c =
     let l = c .before .before .before .loop in
     slot-few (c .before .is-predicate .result) (l .held) (c .choose .result) (omega (arith, places-step (l .left) (omega arith) (c .before .before .loop-test .taken))) (c .choose .ensures)
@@ -48,7 +47,7 @@ loop-again c =
       held-few (predicate .result) (l .held) (c .choose2 .result) (length (decoded (l .left / 128))) (omega arith) (c .choose2 .ensures),
       omega (arith, few (c .before .before .before)),
       rw (c .choose2 .ensures)
-          (rest-on (rowTokens (decoded (g .row)) (g .t3) (getD (g .t3) 5 noOperand)) (g .room .now) (l .next) (l .room) _ _ _ _
+          (rest-on (rowTokens (decoded (g .row)) (g .t3) (getD (g .t3) predicateSlot noOperand)) (g .room .now) (l .next) (l .room) _ _ _ _
           (rw step at (l .inv .4)) (rw (c .before .before .before .before .before .before .choose .ensures) at put)),
     )
 
@@ -56,7 +55,7 @@ returns : tie.Need-returns Inv-loop μ-loop
 returns c =
     let g = c .before .before .before .args in
     let l = c .before .loop in
-    (rest-none _ (g .room .now) (l .next) (l .room) _ (row-none (l .left) (drop (l .held) (g .t3)) (getD (g .t3) 5 noOperand) (c .loop-test .left)) (l .inv .4), omega arith)
+    (rest-none _ (g .room .now) (l .next) (l .room) _ (row-none (l .left) (drop (l .held) (g .t3)) (getD (g .t3) predicateSlot noOperand) (c .loop-test .left)) (l .inv .4), omega arith)
 
 pub put-row-spec : {M : Type 1} → statement M
 put-row-spec =

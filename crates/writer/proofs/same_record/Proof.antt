@@ -4,7 +4,7 @@ use mathlib.Core.Path.{_≡_, refl, sym, _∙_}
 use mathlib.Core.Bool.{true}
 use lib.ListN.{length, drop, length-map}
 use borrow.Author.Tests.{not-true, not-false}
-use Rattle.writer.specs.Row.{operandCount}
+use Rattle.records.specs.Record.{operandCount}
 use Rattle.writer.specs.Same.{sameFields, sameOperands, sameRecord}
 use Rattle.writer.proofs.Same.{same-step, same-done}
 use borrow.Author.Needs.{needs}
