@@ -42,7 +42,7 @@ enum place {
     INT_S,       /* LOOP's second, REP */
     PREDICATE_S, /* BREAKP */
     SAMPLER_S,   /* second source of TEX, TEXLDL, TEXLDD */
-    PREDICATE,   /* the token behind a predicated instruction's operands */
+    PREDICATE,   /* the token behind a predicated instruction's destination */
     RELATIVE,    /* the token behind an operand with bit 13 */
     JUDGED_PLACES,
     RAW = JUDGED_PLACES, /* any 32 bits */
@@ -315,24 +315,36 @@ static uint32_t judge_dcl(enum version version, const uint32_t *tokens, size_t a
 }
 
 /*
- * The operands and the predicate behind the instruction token at `at`, left to
- * right; the stated size ends before `end`. *place as in judge_instruction.
+ * The operands behind the instruction token at `at`, left to right; the stated
+ * size ends before `end`. Of an instruction that is predicated the first is the
+ * destination, and the predicate stands straight behind it and its relative
+ * token. *place as in judge_instruction.
  */
 static inline uint32_t judge_operands(enum version version, const struct rule *rule,
                                       bool predicated, const uint32_t *tokens, size_t at,
                                       size_t end, size_t *place)
 {
     const struct layout *const set = layouts[version];
+    uint8_t with_predicate[6];
+    const uint8_t *places = rule->place;
+    unsigned count = rule->places;
     size_t next = at + 1;
 
-    for (unsigned k = 0; k < rule->places; k++, next++) {
+    if (predicated) {
+        with_predicate[0] = places[0];
+        with_predicate[1] = PREDICATE;
+        memcpy(with_predicate + 2, places + 1, 4);
+        places = with_predicate;
+        count++;
+    }
+    for (unsigned k = 0; k < count; k++, next++) {
         if (next == end)
             return SECOND_SIZE;
-        if (rule->place[k] == RAW)
+        if (places[k] == RAW)
             continue;
 
         const uint32_t token = tokens[next];
-        uint32_t number = judge_token(token, &set[rule->place[k]]);
+        uint32_t number = judge_token(token, &set[places[k]]);
         if (number == SECOND_YES && token & BIT_13) {
             if (++next == end)
                 return SECOND_SIZE;
@@ -342,16 +354,6 @@ static inline uint32_t judge_operands(enum version version, const struct rule *r
             *place = next;
             return number;
         }
-    }
-    if (predicated) {
-        if (next == end)
-            return SECOND_SIZE;
-        const uint32_t number = judge_token(tokens[next], &set[PREDICATE]);
-        if (number != SECOND_YES) {
-            *place = next;
-            return number;
-        }
-        next++;
     }
     if (next != end)
         return SECOND_SIZE;
@@ -642,10 +644,14 @@ static void unpack(enum version version, const uint32_t *tokens, size_t at,
     const struct rule *const rule = rule_of(version, opcode);
     record->controls = field(token, 16, 0xFF);
     record->predicated = field(token, 28, 1);
-    for (unsigned k = 0; k < rule->places; k++)
+    unsigned k = 0;
+    if (record->predicated) {
         at = unpack_operand(rule->place[k], tokens, at, &record->operands[k]);
-    if (record->predicated)
-        unpack_operand(PREDICATE, tokens, at, &record->operands[SECOND_PREDICATE]);
+        at = unpack_operand(PREDICATE, tokens, at, &record->operands[SECOND_PREDICATE]);
+        k++;
+    }
+    for (; k < rule->places; k++)
+        at = unpack_operand(rule->place[k], tokens, at, &record->operands[k]);
 }
 
 struct second_read second_read(uint32_t version, const uint32_t *tokens, size_t count, size_t at)
@@ -719,13 +725,17 @@ static size_t pack(uint32_t version, const struct second_record *record,
 {
     const struct rule *const rule = rule_of(version_of(version), record->opcode);
     size_t at = 1;
+    unsigned k = 0;
 
     if (rule == NULL)
         return 0;
-    for (unsigned k = 0; k < rule->places; k++)
+    if (record->predicated && rule->predicable) {
         at = pack_operand(rule->place[k], &record->operands[k], tokens, at);
-    if (record->predicated)
         at = pack_operand(PREDICATE, &record->operands[SECOND_PREDICATE], tokens, at);
+        k++;
+    }
+    for (; k < rule->places; k++)
+        at = pack_operand(rule->place[k], &record->operands[k], tokens, at);
     tokens[0] = record->opcode | field(record->controls, 0, 0xFF) << 16 | (uint32_t)(at - 1) << 24
               | (record->predicated ? UINT32_C(1) << 28 : 0);
 

@@ -1,6 +1,6 @@
 /*
  * Every entry from C, with arguments that a careful caller would not pass: null with length 0, odd lengths and
- * alignments, places and lengths at the ends of their range. The answers are those of document 01.
+ * alignments, places and lengths at the ends of their range. The answers are those of documents 01 and 02.
  */
 #include "../../include/santubeli.h"
 
@@ -151,12 +151,56 @@ static void edit_entries(void)
            "the splice, and what lies past it as before");
 }
 
+/* Document 02, Q-2: (p3) mov o1[a0.y], c2, the predicate behind the destination and its relative token. */
+static const uint32_t predicated[] = {0xFFFE0300, 0x14000001, 0xE0072001, 0xB0550000, 0xBD1B1003, 0xA0E40002, 0x0000FFFF};
+/* The same with the predicate last, where document 01 had it. */
+static const uint32_t predicate_last[] = {0xFFFE0300, 0x14000001, 0xE0072001, 0xB0550000, 0xA0E40002, 0xBD1B1003, 0x0000FFFF};
+
+static void predicate_entries(void)
+{
+    uint32_t buffer[7] = {0xFFFE0300, 0x0000FFFF};
+    uint8_t bytes[sizeof predicated];
+
+    memcpy(bytes, predicated, sizeof bytes);
+    expect(accepted(santubeli_check_tokens(predicated, 7), 7, 1), "a predicate behind the destination, tokens");
+    expect(accepted(santubeli_check(bytes, sizeof bytes), 7, 1), "a predicate behind the destination, bytes");
+    expect(refused(santubeli_check_tokens(predicate_last, 7), SANTUBELI_REGISTER, 4), "a predicate that is last, tokens");
+    memcpy(bytes, predicate_last, sizeof bytes);
+    expect(refused(santubeli_check(bytes, sizeof bytes), SANTUBELI_REGISTER, 4), "a predicate that is last, bytes");
+
+    struct santubeli_reading r = santubeli_read(0xFFFE0300, predicated, 7, 1);
+    const struct santubeli_operand *operands = r.record.operands;
+    expect(r.number == 0 && r.next == 6 && r.record.predicated == 1, "reading a predicated mov");
+    expect(operands[0].number == 1 && operands[0].type == 6 && operands[0].mask == 7 && operands[0].relative == 1
+               && operands[0].relative_type == 3 && operands[0].relative_swizzle == 0x55,
+           "its destination, with the relative token's fields");
+    expect(operands[1].number == 2 && operands[1].type == 2 && operands[1].swizzle == 0xE4 && operands[1].relative == 0,
+           "its source, the second operand");
+    expect(operands[5].number == 3 && operands[5].type == 19 && operands[5].swizzle == 0x1B && operands[5].modifier == 0xD,
+           "its predicate, the sixth operand");
+    expect(unread(santubeli_read(0xFFFE0300, predicate_last, 7, 1), SANTUBELI_REGISTER, 4), "reading one that is last");
+
+    struct santubeli_written w = santubeli_write(0xFFFE0300, r.record, NULL, 0, buffer, 5, 1);
+    expect(w.number == SANTUBELI_ROOM && buffer[1] == 0x0000FFFF, "a predicated mov without room");
+    w = santubeli_write(0xFFFE0200, r.record, NULL, 0, buffer, 7, 1);
+    expect(w.number == SANTUBELI_RECORD && buffer[1] == 0x0000FFFF, "a predicated mov in vs_2_0");
+    w = santubeli_write(0xFFFE0300, r.record, NULL, 0, buffer, 7, 1);
+    expect(w.number == 0 && w.next == 6 && memcmp(buffer, predicated, 6 * sizeof *buffer) == 0, "a predicated mov written back");
+
+    memcpy(buffer, (const uint32_t[]){0xFFFE0300, 0x0000FFFF}, 8);
+    expect(unedited(santubeli_edit(buffer, 7, 2, 1, 1, predicate_last + 1, 5), SANTUBELI_REGISTER, 4), "a run with the predicate last");
+    const struct santubeli_edited e = santubeli_edit(buffer, 7, 2, 1, 1, predicated + 1, 5);
+    expect(e.number == 0 && e.joined == 1 && e.length == 7 && memcmp(buffer, predicated, sizeof buffer) == 0,
+           "a run with the predicate behind the destination is JOINED");
+}
+
 int main(void)
 {
     check_entries();
     read_entries();
     write_entries();
     edit_entries();
+    predicate_entries();
     printf("%u passed, %u failed\n", passed, failed);
     return failed != 0;
 }

@@ -71,8 +71,8 @@ size_t generate_nested(struct generate_source *source, unsigned version,
  * Every stream of the systematic set, some hundred thousand, each with one
  * instruction under test: opcodes 0 to 100 and FFFC to FFFF in every version,
  * every place with all types and modifiers, with and without relative tokens
- * and a predicate, each bit flipped, each size, many controls, and DCL's
- * forms. Gives how many there were.
+ * and a predicate, which stands at every place once, each bit flipped, each
+ * size, many controls, and DCL's forms. Gives how many there were.
  */
 typedef void generate_visit(void *context, const uint32_t *tokens, size_t count);
 uint64_t generate_systematic(generate_visit *visit, void *context);

@@ -92,26 +92,65 @@ static const struct check_piece check_pieces[] = {
     {"V2 03000001 800F0000 A0E42000 B1000000 .", 7, 4, 0},
     {"V2 0200001F 80002000 900F0000 .", 7, 2, 0},
     {"V2 0200001F 80000000 900F2000 .", 7, 3, 0},
-    {"V3 13000001 800F0000 A0E40000 B0E43000 .", 7, 4, 0},
+    {"V3 13000001 800F0000 B0E43000 A0E40000 .", 7, 3, 0},
     /* 4 */
     {"V2 02000001 800F0000 ADE40000 .", 7, 3, 0},
     {"V2 02000001 800F0000 BDE41000 .", 8, 3, 0},
     /* 5 */
-    {"V3 13000001 800F0000 A0E40000 ADE41000 .", 7, 4, 0},
-    {"V3 13000001 800F0000 A0E40000 A0E41000 .", 8, 4, 0},
-    {"V3 13000001 800F0000 A0E40000 B1E41000 .", 7, 4, 0},
-    {"V3 13000001 800F0000 A0E40000 B0E41000 .", 0, 0, 1},
-    {"V3 13000001 800F0000 A0E40000 BDE41000 .", 0, 0, 1},
-    {"V2 13000001 800F0000 A0E40000 B0E41000 .", 4, 1, 0},
-    {"P2 13000001 800F0000 A0E40000 B0E41000 .", 4, 1, 0},
-    /* 6 */
-    {"V3 14000001 800F0000 A0E40000 A0E40000 B0E41000 .", 8, 4, 0},
-    {"V3 12000001 800F0000 B0E41000 .", 8, 3, 0},
-    {"V3 12000001 800F0000 A0E40000 .", 6, 1, 0},
+    {"V3 13000001 800F0000 ADE41000 A0E40000 .", 7, 3, 0},
+    {"V3 13000001 800F0000 A0E41000 A0E40000 .", 8, 3, 0},
+    {"V3 13000001 800F0000 B1E41000 A0E40000 .", 7, 3, 0},
+    {"V3 13000001 800F0000 B0E41000 A0E40000 .", 0, 0, 1},
+    {"V3 13000001 800F0000 BDE41000 A0E40000 .", 0, 0, 1},
+    {"V2 13000001 800F0000 B0E41000 A0E40000 .", 4, 1, 0},
+    {"P2 13000001 800F0000 B0E41000 A0E40000 .", 4, 1, 0},
+    /* 6, as document 02's Q-2 has it: straight behind the destination */
+    {"V3 14000001 800F0000 A0E40000 A0E40000 B0E41000 .", 8, 3, 0},
+    {"V3 14000001 800F0000 B0E41000 A0E40000 A0E40000 .", 6, 1, 0},
+    {"V3 12000001 800F0000 B0E41000 .", 6, 1, 0},
+    {"V3 12000001 800F0000 A0E40000 .", 8, 3, 0},
+    {"V3 11000001 800F0000 .", 6, 1, 0},
+    {"V3 10000001 .", 6, 1, 0},
+    /* last, it is judged by the tokens that it really has: layout, then type */
+    {"V3 13000001 800F0000 A0E40000 B0E41000 .", 8, 3, 0},
+    {"V3 13000001 800F0000 A1E40000 B0E41000 .", 7, 3, 0},
+    {"V3 13000001 800F0000 A0E42000 B0E41000 .", 7, 3, 0},
+    {"P3 13000001 800F0000 80E40001 BDE41000 .", 8, 3, 0},
+    {"V3 1401005E B00F1000 80E40000 80E40001 B0E41000 .", 8, 3, 0},
+    {"V3 1300002E B00F0000 80E40000 B0E41000 .", 8, 3, 0},
+    {"V3 14000002 800F0000 80E40000 B0E41000 80E40001 .", 8, 3, 0},
+    {"V3 13000001 800F0000 B0E41000 B0E41000 .", 8, 4, 0},
+    /* behind the destination's relative token, and not before it */
+    {"V3 14000001 E00F2000 B0000000 B0E41000 A0E40000 .", 0, 0, 1},
+    {"V3 14000001 E00F2000 F0E40800 BDE41000 A0E40000 .", 0, 0, 1},
+    {"V3 14000001 E00F2000 B0E41000 B0000000 A0E40000 .", 8, 3, 0},
+    {"V3 14000001 E00F2000 BDE41000 B0000000 A0E40000 .", 7, 3, 0},
+    {"V3 13000001 E00F2000 B0000000 B0E41000 .", 6, 1, 0},
+    {"V3 12000001 E00F2000 B0000000 .", 6, 1, 0},
+    {"V3 16000001 E00F2000 B0000000 B0E41000 A0E42000 B0000000 00000000 .", 6, 1, 0},
+    {"V3 15000001 E00F2000 B0000000 B0E41000 A0E42000 B0000000 .", 0, 0, 1},
+    {"P3 14000001 800F2000 F0E40800 B0E41000 A0E40000 .", 7, 2, 0},
+    /* every operand that may be relative is */
+    {"P3 1900005D 800F0000 B0E41000 A0E42000 F0E40800 A0E40800 A0E42000 F0E40800 A0E42000 F0E40800 .", 0, 0, 1},
+    {"P3 1900005D 800F0000 A0E42000 F0E40800 A0E40800 A0E42000 F0E40800 A0E42000 F0E40800 B0E41000 .", 7, 3, 0},
+    {"P3 1800005D 800F0000 B0E41000 A0E42000 F0E40800 A0E40800 A0E42000 F0E40800 A0E42000 F0E40800 .", 6, 1, 0},
+    {"V3 19000004 E00F2000 B0000000 BDE41000 A0E42000 B0000000 A0E42000 B0550000 A0E42000 B0FF0000 .", 0, 0, 1},
+    /* a fault of the predicate comes before those of the sources, and behind the destination's */
+    {"V3 13000001 800F0000 B1E41000 A7E40000 .", 7, 3, 0},
+    {"V3 13000001 800F4000 B1E41000 A0E40000 .", 7, 2, 0},
+    {"V3 13000001 800F0000 30E41000 A0E40000 .", 7, 3, 0},
+    {"V3 13000001 800F0000 B0E45000 A0E40000 .", 7, 3, 0},
+    {"V3 13000001 800F0000 B01B17FF A0E40000 .", 0, 0, 1},
     /* 7 */
     {"P3 12000041 800F0000 B0E41000 .", 0, 0, 1},
-    {"V3 1401005E B00F1000 80E40000 80E40001 B0E41000 .", 0, 0, 1},
-    {"V3 1300002E B00F0000 80E40000 B0E41000 .", 0, 0, 1},
+    {"P3 12000041 B0E41000 800F0000 .", 7, 2, 0},
+    {"P3 11000041 800F0000 .", 6, 1, 0},
+    {"V3 1401005E B00F1000 B0E41000 80E40000 80E40001 .", 0, 0, 1},
+    {"V3 1401005E B00F1000 B0E41000 A0E40000 A0E40001 .", 0, 0, 1},
+    {"V3 1300002E B00F0000 B0E41000 80E40000 .", 0, 0, 1},
+    {"V3 13000025 80030000 B0E41000 80000000 .", 0, 0, 1},
+    {"P3 14010042 800F0000 B0E41000 B0E40000 A0E40800 .", 0, 0, 1},
+    {"V3 1400005F 800F0000 B0E41000 90E40000 A0E40800 .", 0, 0, 1},
     {"V3 11000000 B0E41000 .", 4, 1, 0},
     {"V3 13010029 80E40000 80E40001 B0E41000 0000002B .", 4, 1, 0},
     {"V3 01000026 F0E40000 12000060 B0E41000 B0E41000 00000027 .", 4, 3, 0},
@@ -395,7 +434,16 @@ static const struct edit_piece edit_pieces[] = {
     /* 29 */
     {"V2 00000000 00000000 00000000 .", 2, 1, 4, "", JOINED, 0, 0,
      "V2 . 00000000 00000000 ."},
-    /* document 02, Q-6 */
+    /* document 02, Q-2 */
+    {"V3 02000001 800F0000 A0E40000 .", 1, 1, 4, "13000001 800F0000 B0E41000 A0E40000", JOINED, 0, 0,
+     "V3 13000001 800F0000 B0E41000 A0E40000 ."},
+    {"V3 02000001 800F0000 A0E40000 .", 1, 1, 4, "13000001 800F0000 A0E40000 B0E41000", REFUSED, 8, 3,
+     "V3 02000001 800F0000 A0E40000 ."},
+    {"V3 02000001 800F0000 A0E40000 .", 2, 1, 1, "14000001 E00F2000", REFUSED, 7, 3,
+     "V3 02000001 800F0000 A0E40000 ."},
+    {"V3 13000001 800F0000 B0E41000 A0E40000 .", 0, 1, 5, "02000001 800F0000 A0E40000", JOINED, 0, 0,
+     "V3 02000001 800F0000 A0E40000 . ."},
+    /* */
     {"P3 0200001F 80000005 900F0000 .", 0, 1, 4, "0200001F 8001000A 900F0000", JOINED, 0, 0,
      "P3 0200001F 8001000A 900F0000 ."},
     {"P3 0200001F 8001000A 900F0000 .", 0, 1, 4, "0200001F 8001000E 900F0000", REFUSED, 7, 2,
@@ -513,9 +561,7 @@ static void run_records(void)
     say(written.number == 14, "write a comment with controls");
 
     /* one field at a time, and the predicate's place */
-    count = parse("14000001 80E32007 B0010003 A0E42000 F0AA0801 BDE41002", tokens);
-    tokens[0] = 0x15000001;
-    tokens[1] = 0x80172007;
+    count = parse("15000001 80172007 B0010003 BDE41002 A0E42000 F0AA0801", tokens);
     read = second_read(V3, tokens, count, 0);
     say(read.number == 0 && read.next == 6 && read.record.predicated == 1
             && read.record.operands[0].number == 7 && read.record.operands[0].mask == 7
@@ -530,6 +576,42 @@ static void run_records(void)
             && read.record.operands[5].swizzle == 0xE4, "read all fields");
     written = second_write(V3, &read.record, NULL, 0, out, MOST, 0);
     say(written.number == 0 && written.next == 6 && memcmp(out, tokens, 24) == 0, "write all fields");
+
+    /* document 02, Q-2: the predicate stands second in the stream and last in the record */
+    count = parse("1900005D 800F0001 BD1B1003 A0E42002 F0000800 A0E40804 A0E42005 F0550801 A0E42006 F0AA0802", tokens);
+    read = second_read(P3, tokens, count, 0);
+    say(read.number == 0 && read.next == 10 && read.record.predicated == 1
+            && read.record.operands[0].number == 1 && read.record.operands[0].mask == 0xF
+            && read.record.operands[1].number == 2 && read.record.operands[1].relative_number == 0
+            && read.record.operands[2].number == 4 && read.record.operands[2].type == 10
+            && read.record.operands[3].number == 5 && read.record.operands[3].relative_number == 1
+            && read.record.operands[4].number == 6 && read.record.operands[4].relative_number == 2
+            && read.record.operands[5].number == 3 && read.record.operands[5].type == 19
+            && read.record.operands[5].modifier == 0xD
+            && read.record.operands[5].swizzle == 0x1B, "read a predicated TEXLDD");
+    written = second_write(P3, &read.record, NULL, 0, out, 10, 0);
+    say(written.number == 0 && written.next == 10 && memcmp(out, tokens, 40) == 0, "write a predicated TEXLDD");
+    written = second_write(P3, &read.record, NULL, 0, out, 9, 0);
+    say(written.number == 13, "write it without room");
+    read.record.predicated = 0;
+    written = second_write(P3, &read.record, NULL, 0, out, 10, 0);
+    say(written.number == 14, "write a predicate without its mark");
+    read.record.predicated = 1;
+    read.record.operands[5].type = 18;
+    written = second_write(P3, &read.record, NULL, 0, out, 10, 0);
+    say(written.number == 14, "write a predicate of type 18");
+    count = parse("13000001 800F0000 A0E40000 B0E41000", tokens);
+    read = second_read(V3, tokens, count, 0);
+    say(read.number == 8 && read.position == 2, "read a predicate that is last");
+    count = parse("12000041 800F0000 B0E41000", tokens);
+    read = second_read(P3, tokens, count, 0);
+    say(read.number == 0 && read.next == 3 && read.record.operands[1].type == 0
+            && read.record.operands[5].type == 19, "read a predicated TEXKILL");
+    written = second_write(P3, &read.record, NULL, 0, out, 3, 0);
+    say(written.number == 0 && written.next == 3 && memcmp(out, tokens, 12) == 0, "write a predicated TEXKILL");
+    read.record.opcode = 0;
+    written = second_write(P3, &read.record, NULL, 0, out, 3, 0);
+    say(written.number == 14, "write a predicated NOP");
 
     count = parse("0200001F 80000000 900F0003", tokens);
     read = second_read(V2, tokens, count, 0);

@@ -1,34 +1,23 @@
 -- The bits and the places of a first token, by the shape of its opcode.
 use mathlib.Core.Path.{_≡_, refl}
-use mathlib.Core.Bool.{Bool, true, false, not, _&&_, _||_}
+use mathlib.Core.Bool.{Bool, true, false, _&&_, _||_}
 use mathlib.Core.List.{List, [], _∷_}
-use Prim.Native.Nat.{ℕ, suc, _*_, _/_, _%_, _^_, _<_, _≤_}
-use native.Mathlib.Nat.{mod-lt, mod-eq-of-lt, pow-le-pow-right}
+use Prim.Native.Nat.{ℕ, _/_, _%_, _^_, _<_}
+use native.Mathlib.Nat.{mod-lt}
 use native.Mathlib.Omega.{arith}
 use lib.Dec.{eqb, leb, lit<}
-use lib.ListN.{length}
 use borrow.Author.Tests.{eq-eqb, ne-eqb, eqb-true, eqb-false}
 use Rattle.paper.specs.Notation.{pick, among, bits, bit}
-use Rattle.paper.specs.OpcodeTable.{DCL, DEF, DEFI, DEFB, IFC, BREAKC, SETP, TEX}
-use Rattle.paper.specs.Versions.{hasPredicates}
-use Rattle.paper.specs.InstructionToken.{opcodeOf, controlsOf, isPredicated, hasDestination, mayBePredicated, withPredicate, controlsLaid, bitsLaid}
-use Rattle.paper.specs.Places.{listed, entryOf, Place, predicate}
+use Rattle.paper.specs.OpcodeTable.{IFC, BREAKC, SETP, TEX}
+use Rattle.paper.specs.InstructionToken.{opcodeOf, controlsOf, isPredicated, mayBePredicated, withPredicate, controlsLaid, bitsLaid}
+use Rattle.paper.specs.Places.{listed, entryOf, Place}
 use Rattle.paper.specs.declared.Version.{Version}
 use Rattle.paper.proofs.Bools.{apart, both-left, both-right, and-true}
-use Rattle.places.specs.Places.{numberBy, decoded}
+use Rattle.places.specs.Places.{decoded}
 use Rattle.places.proofs.Decoding.{without-predicate}
 use Rattle.opcodes.specs.Shape.{shapeOf, ruleIn}
-use Rattle.opcodes.proofs.Shapes.{shape-places, shape-step, shape-rule, decoded-digits, decoded-predicated}
+use Rattle.opcodes.proofs.Shapes.{shape-places, shape-predicable, shape-rule, decoded-digits, decoded-predicated}
 use Rattle.instruction_token.specs.ByShape.{hasZeros, controlsBy, bitsBy, placesBy}
-
--- the predicate's digit, as a machine of 64 bits shifts it
-pub predicate-small : (step : ℕ) → step < 8 → numberBy predicate * 2 ^ (7 * step) < 2 ^ 56
-predicate-small step h =
-    let below : 2 ^ (7 * step) ≤ 2 ^ 49 = pow-le-pow-right {n = 2} (lit< tt) {i = 7 * step} {j = 49} (omega arith) in
-    omega arith
-
-pub predicate-fits : (step : ℕ) → step < 8 → numberBy predicate * 2 ^ (7 * step) % 2 ^ 64 ≡ numberBy predicate * 2 ^ (7 * step)
-predicate-fits step h = mod-eq-of-lt (omega (arith, predicate-small step h))
 
 controls-by : (compared textured : Bool) (controls : ℕ) →
     controlsBy (pick compared 1 (pick textured 2 0)) controls ≡
@@ -36,16 +25,6 @@ controls-by : (compared textured : Bool) (controls : ℕ) →
 controls-by true textured controls = refl
 controls-by false true controls = refl
 controls-by false false controls = refl
-
-step-by : (places : List Place) (may : Bool) → (may ≡ true → hasDestination places ≡ true) → not (eqb (pick may (length places) 0) 0) ≡ may
-step-by places false h = refl
-step-by [] true h = let z : false ≡ true = h refl in z
-step-by (letter ∷ places) true h = rw (ne-eqb (suc (length places)) 0 (λ e. omega arith))
-
-needs-destination : (third has no-definition : Bool) → third && (has && no-definition) ≡ true → has ≡ true
-needs-destination true true free e = refl
-needs-destination true false free e = e
-needs-destination false has free e = apart (cc)
 
 predicated-only : (zeros controls unpredicated may : Bool) → zeros && (controls && (unpredicated || may)) ≡ true → unpredicated ≡ false → may ≡ true
 predicated-only true true false may e f = e
@@ -66,13 +45,10 @@ module _ (v : Version) (token : ℕ) (places : List Place) (e : entryOf v (opcod
   pub bits-by : bitsBy (shapeOf v (opcodeOf token)) token ≡ bitsLaid v token places
   unfolding bitsBy
   bits-by =
-      let destined : mayBePredicated v (opcodeOf token) places ≡ true → hasDestination places ≡ true
-      = needs-destination (hasPredicates v) (hasDestination places) (not (among (opcodeOf token) (DCL ∷ DEF ∷ DEFI ∷ DEFB ∷ []))) in
       rw (
         shape-rule v (opcodeOf token) places e,
-        shape-step v (opcodeOf token) places e,
+        shape-predicable v (opcodeOf token) places e,
         controls-by (among (opcodeOf token) (IFC ∷ BREAKC ∷ SETP ∷ [])) (eqb (opcodeOf token) TEX) (controlsOf token),
-        step-by places (mayBePredicated v (opcodeOf token) places) destined,
       )
 
   -- the places are read back from their number
@@ -83,10 +59,7 @@ module _ (v : Version) (token : ℕ) (places : List Place) (e : entryOf v (opcod
       by : (predicated : Bool) → isPredicated token ≡ predicated →
           decoded (placesBy (shapeOf v (opcodeOf token)) token) ≡ withPredicate (isPredicated token) places
       by false p = rw (p, shape-places v (opcodeOf token) places e, without-predicate places) (decoded-digits v (opcodeOf token) places e)
-      by true p =
-          let may = may-be v token places laid p in
-          rw (p, shape-places v (opcodeOf token) places e, shape-step v (opcodeOf token) places e, may)
-          (rw may at (decoded-predicated v (opcodeOf token) places e may))
+      by true p = rw (p, shape-places v (opcodeOf token) places e) (decoded-predicated v (opcodeOf token) places e (may-be v token places laid p))
 
 -- where bits 31:28 and the controls are zero, only an odd rule is broken
 zeros-by : (rule : ℕ) → rule < 4 → (none two : Bool) → eqb rule 0 ≡ none → eqb rule 2 ≡ two → controlsBy rule 0 ≡ eqb (rule % 2) 0

@@ -1,12 +1,11 @@
 -- What an instruction's first token says, by the fields of its opcode's shape.
-use Prim.Native.Nat.{ℕ, _+_, _*_, _/_, _^_}
-use mathlib.Core.Bool.{Bool, not, _&&_, _||_}
+use Prim.Native.Nat.{ℕ, _/_, _^_}
+use mathlib.Core.Bool.{Bool, _&&_, _||_}
 use lib.Dec.{eqb, leb}
 use Rattle.paper.specs.Notation.{bits, bit, pick}
 use Rattle.paper.specs.InstructionToken.{controlsOf, isPredicated}
-use Rattle.paper.specs.Places.{predicate}
-use Rattle.places.specs.Places.{numberBy}
-use Rattle.opcodes.specs.Shape.{placesField, stepIn, ruleIn}
+use Rattle.places.specs.Places.{predicatedRow}
+use Rattle.opcodes.specs.Shape.{placesField, predicableIn, ruleIn}
 
 -- the table has no rule 3; it is as rule 1, so that an odd rule alone forbids zero controls
 abbrev pub controlsBy : ℕ → ℕ → Bool
@@ -19,8 +18,8 @@ hasZeros token = eqb (token / 2 ^ 28) 0 && eqb (controlsOf token) 0
 unfoldable pub bitsBy : ℕ → ℕ → Bool
 bitsBy shape token =
     eqb (bits 31 29 token) 0
-    && (controlsBy (ruleIn shape) (controlsOf token) && (eqb (bit 28 token) 0 || not (eqb (stepIn shape) 0)))
+    && (controlsBy (ruleIn shape) (controlsOf token) && (eqb (bit 28 token) 0 || predicableIn shape))
 
 unfoldable pub placesBy : ℕ → ℕ → ℕ
 placesBy shape token =
-    pick (isPredicated token) (placesField shape + numberBy predicate * 2 ^ (7 * stepIn shape)) (placesField shape)
+    pick (isPredicated token) (predicatedRow (placesField shape)) (placesField shape)

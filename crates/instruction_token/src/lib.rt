@@ -56,17 +56,18 @@ pub fn bits_laid(shape: u64, token: u32) -> bool
         return opcodes::rule_in(shape) % 2 == 0;
     }
     let controls = controls_laid(opcodes::rule_in(shape), token / 0x1_0000 % 0x100);
-    let step = opcodes::step_in(shape);
-    (token / 0x2000_0000 % 8 == 0) & (controls & ((token / 0x1000_0000 % 2 == 0) | (step != 0)))
+    let predicable = opcodes::may_be_predicated(shape);
+    (token / 0x2000_0000 % 8 == 0) & (controls & ((token / 0x1000_0000 % 2 == 0) | predicable))
 }
 
-// The places of the operands, and the predicate's behind them.
+// The places of the operands, and the predicate's behind the first.
 pub fn places_of(shape: u64, token: u32) -> u64
     ensures { λ r. ⌜ r ≡ placesBy shape token ⌝ }
 {
     let row = opcodes::places_in(shape);
     if token / 0x1000_0000 % 2 == 1 {
-        return row + (places::PREDICATE << (7 * opcodes::step_in(shape)));
+        return row % places::BASE
+            + places::BASE * (places::PREDICATE + places::BASE * (row / places::BASE));
     }
     row
 }

@@ -2,3 +2,4 @@
 pub mod Computed
 pub mod Table
 pub mod Shapes
+pub mod DestinationFirst

@@ -1,5 +1,5 @@
 -- What a shape says, for those who look one up: whether the table lists the opcode, each field, and the places read back from their number.
-use Prim.Native.Nat.{ℕ, _+_, _*_, _^_, _≤_, _<_}
+use Prim.Native.Nat.{ℕ, _+_, _*_, _/_, _%_, _^_, _≤_, _<_}
 use mathlib.Core.Path.{_≡_, refl}
 use mathlib.Core.Bool.{Bool, true, false, not, _&&_}
 use mathlib.Core.List.{List, [], _∷_}
@@ -9,7 +9,8 @@ use lib.ListN.{length}
 use borrow.Author.Tests.{leb-true, ltb-true}
 use Rattle.paper.specs.Notation.{pick, among}
 use Rattle.paper.specs.OpcodeTable.{rows, IFC, BREAKC, SETP, TEX}
-use Rattle.paper.specs.InstructionToken.{mayBePredicated, withPredicate}
+use Rattle.paper.specs.Versions.{hasPredicates}
+use Rattle.paper.specs.InstructionToken.{hasDestination, mayBePredicated, withPredicate}
 use Rattle.paper.specs.Blocks.{classOf}
 use Rattle.paper.specs.declared.Version.{Version}
 use Rattle.paper.specs.declared.Single.the-variants.{Comment, Plain, Break, Label, Return}
@@ -18,14 +19,13 @@ use Rattle.paper.specs.declared.Closer.the-variants.{Else, EndIf, EndLoop, EndR
 use Rattle.paper.specs.declared.Class.{Class}
 use Rattle.paper.specs.declared.Class.the-variants.{One, Opens, Closes}
 use Rattle.opcodes.specs.Classes.{classNumber}
-use Rattle.opcodes.specs.Shape.{controlsRule, predicateStep, shapeIn, shapeOf, placesField, stepIn, ruleIn, classIn}
-use Rattle.places.specs.Places.{digits}
-use Rattle.places.specs.Places.{numberBy, decoded}
-use Rattle.paper.proofs.Bools.{both-left, both-right}
-use Rattle.paper.specs.Places.{Entry, absent, listed, entryOf, Place, predicate, isPredicate, typedPlaces}
+use Rattle.opcodes.specs.Shape.{controlsRule, shapeIn, shapeOf, placesField, predicableIn, ruleIn, classIn}
+use Rattle.places.specs.Places.{digits, predicatedRow, decoded}
+use Rattle.paper.proofs.Bools.{never, both-left, both-right}
+use Rattle.paper.specs.Places.{Entry, absent, listed, entryOf, Place, isPredicate, typedPlaces}
 use Rattle.opcodes.proofs.Computed.{computed}
 use Rattle.opcodes.proofs.Table.{limit, beyond}
-use Rattle.places.proofs.Decoding.{arePlaces, decoded-places, predicated-places, predicated-length, digits-predicated}
+use Rattle.places.proofs.Decoding.{arePlaces, decoded-places, predicated-back}
 
 -- none of the places is the predicate's
 abbrev pub unpredicated : List Place → Bool
@@ -52,9 +52,13 @@ rule-small opcode = by (among opcode (IFC ∷ BREAKC ∷ SETP ∷ [])) (eqb opco
     by false true = omega arith
     by false false = omega arith
 
-step-small : (b : Bool) (n : ℕ) → n ≤ 5 → pick b n 0 ≤ 5
-step-small true n h = h
-step-small false n h = omega arith
+mark-small : (b : Bool) → pick b 1 0 < 2
+mark-small true = omega arith
+mark-small false = omega arith
+
+mark-back : (b : Bool) → eqb (pick b 1 0) 1 ≡ b
+mark-back true = refl
+mark-back false = refl
 
 pub class-few : (c : Class) → classNumber c < 16
 class-few (One Comment) = lit< tt
@@ -73,22 +77,22 @@ class-few (Closes End) = lit< tt
 
 -- the fields of a shape, over plain numbers
 abbrev packed : ℕ → ℕ → ℕ → ℕ → ℕ
-packed places step rule class = places + (2 ^ 35 * step + (2 ^ 38 * rule + (2 ^ 40 + 2 ^ 41 * class)))
+packed places mark rule class = places + (2 ^ 35 * mark + (2 ^ 36 * rule + (2 ^ 38 + 2 ^ 39 * class)))
 
-module _ (places step rule class : ℕ) (hp : places < 2 ^ 35) (hs : step ≤ 5) (hr : rule < 3) where
-  packed-places : placesField (packed places step rule class) ≡ places
+module _ (places mark rule class : ℕ) (hp : places < 2 ^ 35) (hm : mark < 2) (hr : rule < 3) where
+  packed-places : placesField (packed places mark rule class) ≡ places
   packed-places = omega arith
 
-  packed-step : stepIn (packed places step rule class) ≡ step
-  packed-step = omega arith
+  packed-mark : packed places mark rule class / 2 ^ 35 % 2 ≡ mark
+  packed-mark = omega arith
 
-  packed-rule : ruleIn (packed places step rule class) ≡ rule
+  packed-rule : ruleIn (packed places mark rule class) ≡ rule
   packed-rule = omega arith
 
-  packed-class : classIn (packed places step rule class) ≡ class
+  packed-class : classIn (packed places mark rule class) ≡ class
   packed-class = omega arith
 
-  packed-bound : class < 16 → packed places step rule class < 2 ^ 45
+  packed-bound : class < 16 → packed places mark rule class < 2 ^ 43
   packed-bound few = omega arith
 
 -- the opcode has a shape exactly where the table lists it
@@ -127,31 +131,32 @@ module _ (v : Version) (opcode : ℕ) (places : List Place) (e : entryOf v opcod
   pub row-unpredicated : unpredicated places ≡ true
   row-unpredicated = both-right (arePlaces places) _ (both-right (ltb (digits places) (2 ^ 35)) _ places-fit)
 
-  step-few : predicateStep v opcode places ≤ 5
-  step-few = step-small (mayBePredicated v opcode places) (length places) few
+  mark-few : pick (mayBePredicated v opcode places) 1 0 < 2
+  mark-few = mark-small (mayBePredicated v opcode places)
 
   pub shape-places : placesField (shapeOf v opcode) ≡ digits places
-  shape-places = rw shape-listed (packed-places _ _ _ _ digits-small step-few (rule-small opcode))
+  shape-places = rw shape-listed (packed-places _ _ _ _ digits-small mark-few (rule-small opcode))
 
-  pub shape-step : stepIn (shapeOf v opcode) ≡ predicateStep v opcode places
-  shape-step = rw shape-listed (packed-step _ _ _ _ digits-small step-few (rule-small opcode))
+  pub shape-predicable : predicableIn (shapeOf v opcode) ≡ mayBePredicated v opcode places
+  shape-predicable =
+      rw (shape-listed, packed-mark _ _ _ _ digits-small mark-few (rule-small opcode)) (mark-back (mayBePredicated v opcode places))
 
   pub shape-rule : ruleIn (shapeOf v opcode) ≡ controlsRule opcode
-  shape-rule = rw shape-listed (packed-rule _ _ _ _ digits-small step-few (rule-small opcode))
+  shape-rule = rw shape-listed (packed-rule _ _ _ _ digits-small mark-few (rule-small opcode))
 
   pub shape-class : classIn (shapeOf v opcode) ≡ classNumber (classOf opcode)
-  shape-class = rw shape-listed (packed-class _ _ _ _ digits-small step-few (rule-small opcode))
+  shape-class = rw shape-listed (packed-class _ _ _ _ digits-small mark-few (rule-small opcode))
 
-  pub shape-bound : shapeOf v opcode < 2 ^ 45
-  shape-bound = rw shape-listed (packed-bound _ _ _ _ digits-small step-few (rule-small opcode) (class-few (classOf opcode)))
+  pub shape-bound : shapeOf v opcode < 2 ^ 43
+  shape-bound = rw shape-listed (packed-bound _ _ _ _ digits-small mark-few (rule-small opcode) (class-few (classOf opcode)))
 
   pub decoded-digits : decoded (digits places) ≡ places
   decoded-digits = decoded-places places are-places (omega (arith, few))
 
-  pub decoded-predicated : mayBePredicated v opcode places ≡ true →
-      decoded (digits places + numberBy predicate * 2 ^ (7 * predicateStep v opcode places))
-      ≡ withPredicate true places
-  decoded-predicated m =
-      rw (m, digits-predicated places)
-      (decoded-places (withPredicate true places) (predicated-places places are-places)
-      (omega (arith, few, predicated-length places)))
+  pub decoded-predicated : mayBePredicated v opcode places ≡ true → decoded (predicatedRow (digits places)) ≡ withPredicate true places
+  decoded-predicated m = by places (both-left (hasDestination places) _ (both-right (hasPredicates v) _ m)) are-places few
+    where
+      by : (row : List Place) → hasDestination row ≡ true → arePlaces row ≡ true → length row ≤ 5 →
+          decoded (predicatedRow (digits row)) ≡ withPredicate true row
+      by [] has are short = never has
+      by (place ∷ row) has are short = predicated-back place row are (omega arith)

@@ -82,11 +82,11 @@ pub no-row : (opcode : ℕ) → NoneBelow opcode limit → rowOf opcode ≡ 0
 no-row opcode rest = no-row-from opcode limit (row-beyond opcode) rest
 
 -- what the code finds for the version of a rank, with predicates or without, by the row of an opcode: none where the version's bit is zero, but
--- for SINCOS; a step only where there are predicates
+-- for SINCOS; the predicable bit only where there are predicates
 abbrev pub found : ℕ → Bool → ℕ → ℕ → ℕ
 found n predicates opcode row =
     pick (eqb (row / 2 ^ n % 2) 0) (pick (eqb opcode sincos && predicates) (shapeOf V3 sincos) 0)
-    (pick predicates (row / shapeFrom) (row / shapeFrom / 2 ^ 38 * 2 ^ 38 + row / shapeFrom % 2 ^ 35))
+    (pick predicates (row / shapeFrom) (row / shapeFrom / 2 ^ 36 * 2 ^ 36 + row / shapeFrom % 2 ^ 35))
 
 abbrev right : Version → ℕ → Bool
 right v opcode = eqb (found (rank v) (hasPredicates v) opcode (rowOf opcode)) (shapeOf v opcode)

@@ -11,14 +11,14 @@ use Rattle.paper.specs.Places.{entryOf}
 use Rattle.versions.specs.Rows.{rank}
 use Rattle.opcodes.specs.Shape.{shapeIn}
 
--- the shape of an opcode by the letters of a version, with the predicate's step of V3 and P3
-abbrev pub stepped : Version → ℕ → ℕ
-stepped v opcode = shapeIn V3 opcode (entryOf v opcode)
+-- the shape of an opcode by the letters of a version, predicable as in V3 and P3
+abbrev pub predicableShape : Version → ℕ → ℕ
+predicableShape v opcode = shapeIn V3 opcode (entryOf v opcode)
 
 -- the shape of the row: that of the first version that lists the opcode
 abbrev pub firstShape : List Version → ℕ → ℕ
 firstShape [] opcode = 0
-firstShape (v ∷ vs) opcode = pick (eqb (stepped v opcode) 0) (firstShape vs opcode) (stepped v opcode)
+firstShape (v ∷ vs) opcode = pick (eqb (predicableShape v opcode) 0) (firstShape vs opcode) (predicableShape v opcode)
 
 abbrev pub rowShape : ℕ → ℕ
 rowShape opcode = firstShape versions opcode
@@ -30,7 +30,7 @@ sincos = 37
 -- the bit of its rank for a version that has a shape; SINCOS alone has another in V3 and P3
 abbrev pub versionBits : List Version → ℕ → ℕ → ℕ
 versionBits [] opcode shape = 0
-versionBits (v ∷ vs) opcode shape = pick (eqb (stepped v opcode) shape) (2 ^ rank v) 0 + versionBits vs opcode shape
+versionBits (v ∷ vs) opcode shape = pick (eqb (predicableShape v opcode) shape) (2 ^ rank v) 0 + versionBits vs opcode shape
 
 -- the versions lowest, above them the shape; an opcode that is not in the table has row 0
 abbrev pub shapeFrom : ℕ

@@ -2,7 +2,7 @@
 mod rows;
 
 ghost use mathlib.Core.Path.{_≡_};
-ghost use Rattle.opcodes.specs.Shape.{shapeOf, placesField, stepIn, ruleIn, classIn};
+ghost use Rattle.opcodes.specs.Shape.{shapeOf, placesField, predicableIn, ruleIn, classIn};
 ghost use Rattle.opcodes.specs.Rows.{rowOf};
 use paper::Version;
 
@@ -95,22 +95,22 @@ pub fn shape_of(version: Version, opcode: u32) -> u64
     if predicates {
         return shape;
     }
-    // "predicated: only V3 and P3": the step is left out
-    shape / rows::RULE * rows::RULE + shape % rows::STEP
+    // "predicated: only V3 and P3": the bit is left out
+    shape / rows::RULE * rows::RULE + shape % rows::PREDICABLE
 }
 
-// The fields of a shape: its places, as one number; behind how many operands the predicate stands, and 0 where it may not; the rule of the
-// controls; the number of its class.
+// The fields of a shape: its places, as one number; whether the instruction may be predicated; the rule of the controls; the number of its
+// class.
 pub fn places_in(shape: u64) -> u64
     ensures { λ r. ⌜ r ≡ placesField shape ⌝ }
 {
-    shape % rows::STEP
+    shape % rows::PREDICABLE
 }
 
-pub fn step_in(shape: u64) -> u64
-    ensures { λ r. ⌜ r ≡ stepIn shape ⌝ }
+pub fn may_be_predicated(shape: u64) -> bool
+    ensures { λ r. ⌜ r ≡ predicableIn shape ⌝ }
 {
-    shape / rows::STEP % (rows::RULE / rows::STEP)
+    shape / rows::PREDICABLE % 2 == 1
 }
 
 pub fn rule_in(shape: u64) -> u64

@@ -1,15 +1,16 @@
 // The numbers of the table's rows. A row's number: bits 3:0 the versions, each at its rank; above them the shape that the row has in V3 and P3.
 pub(crate) const SHAPE: u64 = 16;
 
-// A shape's number: where its predicate's step begins, its rule of the controls, the bit that is one, its class. Below them stand its places.
-pub(crate) const STEP: u64 = 0x8_0000_0000;
+// A shape's number: the bit of an instruction that may be predicated, where its rule of the controls begins, the bit that is one, its class.
+// Below them stand its places.
+pub(crate) const PREDICABLE: u64 = 0x8_0000_0000;
 
-pub(crate) const RULE: u64 = 0x40_0000_0000;
+pub(crate) const RULE: u64 = 0x10_0000_0000;
 
-pub(crate) const LISTED: u64 = 0x100_0000_0000;
+pub(crate) const LISTED: u64 = 0x40_0000_0000;
 
 // What an opcode is to the blocks, as specs/Classes.antt numbers it.
-pub(crate) const CLASS: u64 = 0x200_0000_0000;
+pub(crate) const CLASS: u64 = 0x80_0000_0000;
 
 const PLAIN: u64 = LISTED + CLASS;
 
@@ -66,23 +67,28 @@ const LABEL: u64 = places::SOURCE + 18;
 
 const INTEGER: u64 = places::SOURCE + 7;
 
-// The table's second column. Where there is a D, the predicate's step is the number of operands. COMPARED serves opcodes of two
-// classes: their rows add the class, as CALL's and LABEL's do.
-const DS: u64 = PLAIN + 2 * STEP + D + NEXT * S;
+// The table's second column. Where there is a D, the instruction may be predicated, but for DCL, DEF, DEFI and DEFB. COMPARED serves opcodes
+// of two classes: their rows add the class, as CALL's and LABEL's do.
+const DS: u64 = PLAIN + PREDICABLE + D + NEXT * S;
 
-const MOVA: u64 = PLAIN + 2 * STEP + places::DESTINATION + 3 + NEXT * S;
+const MOVA: u64 = PLAIN + PREDICABLE + places::DESTINATION + 3 + NEXT * S;
 
-const DSS: u64 = PLAIN + 3 * STEP + D + NEXT * (S + NEXT * S);
+const DSS: u64 = PLAIN + PREDICABLE + D + NEXT * (S + NEXT * S);
 
-const SAMPLED: u64 = PLAIN + 3 * STEP + D + NEXT * (S + NEXT * SAMPLER);
+const SAMPLED: u64 = PLAIN + PREDICABLE + D + NEXT * (S + NEXT * SAMPLER);
 
-const SETP: u64 = PLAIN + COMPARISON + 3 * STEP + places::DESTINATION + 19 + NEXT * (S + NEXT * S);
+const SETP: u64 = PLAIN
+    + COMPARISON
+    + PREDICABLE
+    + places::DESTINATION
+    + 19
+    + NEXT * (S + NEXT * S);
 
-const DSSS: u64 = PLAIN + 4 * STEP + D + NEXT * (S + NEXT * (S + NEXT * S));
+const DSSS: u64 = PLAIN + PREDICABLE + D + NEXT * (S + NEXT * (S + NEXT * S));
 
-const TEXLDD: u64 = PLAIN + 5 * STEP + D + NEXT * (S + NEXT * (SAMPLER + NEXT * (S + NEXT * S)));
+const TEXLDD: u64 = PLAIN + PREDICABLE + D + NEXT * (S + NEXT * (SAMPLER + NEXT * (S + NEXT * S)));
 
-const TEXKILL: u64 = PLAIN + STEP + places::KILLED;
+const TEXKILL: u64 = PLAIN + PREDICABLE + places::KILLED;
 
 const REP: u64 = OPENS_REP + INTEGER;
 

@@ -71,8 +71,6 @@ vectors =
     vector V2 (0x02000001 ∷ 0x800F0000 ∷ 0xADE40000 ∷ []) 7 2 0 ∷
     -- modifier D with type 19 where 19 is not allowed
     vector V2 (0x02000001 ∷ 0x800F0000 ∷ 0xBDE41000 ∷ []) 8 2 0 ∷
-    -- the predicate stands behind the last operand
-    vector V3 (0x14000001 ∷ 0x800F0000 ∷ 0xA0E40000 ∷ 0xA0E40000 ∷ 0xB0E41000 ∷ []) 8 3 0 ∷
     -- DCL with no destination
     vector V2 (0x0100001F ∷ 0x00000000 ∷ []) 6 0 0 ∷
     -- the destination of a DCL comes first
@@ -183,10 +181,36 @@ vectors =
     vector V3 (0x0200002F ∷ 0xE00F0800 ∷ 0x00000001 ∷ []) 0 0 3 ∷
     -- DEFB in P2
     vector P2 (0x0200002F ∷ 0xE00F0800 ∷ 0x00000001 ∷ []) 3 0 0 ∷
+    -- (p0) mov r0, c0
+    vector V3 (0x13000001 ∷ 0x800F0000 ∷ 0xB0E41000 ∷ 0xA0E40000 ∷ []) 0 0 4 ∷
     -- (!p0) mov r0, r1
-    vector P3 (0x13000001 ∷ 0x800F0000 ∷ 0x80E40001 ∷ 0xBDE41000 ∷ []) 0 0 4 ∷
+    vector P3 (0x13000001 ∷ 0x800F0000 ∷ 0xBDE41000 ∷ 0x80E40001 ∷ []) 0 0 4 ∷
     -- the predicate with modifier 1
-    vector V3 (0x13000001 ∷ 0x800F0000 ∷ 0xA0E40000 ∷ 0xB1E41000 ∷ []) 7 3 0 ∷
+    vector V3 (0x13000001 ∷ 0x800F0000 ∷ 0xB1E41000 ∷ 0xA0E40000 ∷ []) 7 2 0 ∷
+    -- (p0) mov o0[a0.x], c0
+    vector V3 (0x14000001 ∷ 0xE00F2000 ∷ 0xB0000000 ∷ 0xB0E41000 ∷ 0xA0E40000 ∷ []) 0 0 5 ∷
+    -- the predicate before the destination's relative token
+    vector V3 (0x14000001 ∷ 0xE00F2000 ∷ 0xB0E41000 ∷ 0xB0000000 ∷ 0xA0E40000 ∷ []) 8 2 0 ∷
+    -- (p0) setp_gt p0, c0, c1
+    vector V3 (0x1401005E ∷ 0xB00F1000 ∷ 0xB0E41000 ∷ 0xA0E40000 ∷ 0xA0E40001 ∷ []) 0 0 5 ∷
+    -- (p0) texldd r0, v0, s0, r1, r2
+    vector P3 (0x1600005D ∷ 0x800F0000 ∷ 0xB0E41000 ∷ 0x90E40000 ∷ 0xA0E40800 ∷ 0x80E40001 ∷ 0x80E40002 ∷ []) 0 0 7 ∷
+    -- (p0) texldd r0, c0[aL], s0, c0[aL], c0[aL]
+    vector P3 (0x1900005D ∷ 0x800F0000 ∷ 0xB0E41000 ∷ 0xA0E42000 ∷ 0xF0E40800 ∷ 0xA0E40800 ∷ 0xA0E42000 ∷ 0xF0E40800 ∷ 0xA0E42000 ∷ 0xF0E40800 ∷ []) 0 0 10 ∷
+    -- the predicate last: the first source stands in its place, by its layout and by its type
+    vector V3 (0x13000001 ∷ 0x800F0000 ∷ 0xA1E40000 ∷ 0xB0E41000 ∷ []) 7 2 0 ∷
+    vector V3 (0x13000001 ∷ 0x800F0000 ∷ 0xA0E40000 ∷ 0xB0E41000 ∷ []) 8 2 0 ∷
+    -- the predicate behind the first source
+    vector V3 (0x14000002 ∷ 0x800F0000 ∷ 0x80E40000 ∷ 0xB0E41000 ∷ 0x80E40001 ∷ []) 8 2 0 ∷
+    -- no source behind the predicate, and no predicate
+    vector V3 (0x12000001 ∷ 0x800F0000 ∷ 0xB0E41000 ∷ []) 6 0 0 ∷
+    vector V3 (0x11000001 ∷ 0x800F0000 ∷ []) 6 0 0 ∷
+    vector V3 (0x12000001 ∷ 0xE00F2000 ∷ 0xB0000000 ∷ []) 6 0 0 ∷
+    -- predicated: 2_0, NOP, IFC, DEF
+    vector V2 (0x13000001 ∷ 0x800F0000 ∷ 0xB0E41000 ∷ 0xA0E40000 ∷ []) 4 0 0 ∷
+    vector V3 (0x11000000 ∷ 0xB0E41000 ∷ []) 4 0 0 ∷
+    vector P3 (0x13010029 ∷ 0x80000000 ∷ 0xB0E41000 ∷ 0x80000001 ∷ []) 4 0 0 ∷
+    vector P3 (0x16000051 ∷ 0xA00F0000 ∷ 0xB0E41000 ∷ 0x00000000 ∷ 0x00000000 ∷ 0x00000000 ∷ 0x00000000 ∷ []) 4 0 0 ∷
     -- mov o0[aL], r0
     vector V3 (0x03000001 ∷ 0xE00F2000 ∷ 0xF0E40800 ∷ 0x80E40000 ∷ []) 0 0 4 ∷
     -- a relative destination in P3

@@ -1,4 +1,4 @@
--- Document 01, "Instruction token": its bits, the comment and END.
+-- Document 01, "Instruction token", with document 02's Q-2: its bits, the comment and END.
 use Prim.Native.Nat.{ℕ}
 use mathlib.Core.Bool.{Bool, false, not, _&&_, _||_}
 use mathlib.Core.List.{List, [], _∷_}
@@ -33,10 +33,12 @@ abbrev pub mayBePredicated : Version → ℕ → List Place → Bool
 mayBePredicated v opcode places =
     hasPredicates v && (hasDestination places && not (among opcode (DCL ∷ DEF ∷ DEFI ∷ DEFB ∷ [])))
 
--- "The predicate is then one source token, last of the instruction's tokens"
+-- "The predicate is then one source token"; document 02, Q-2: "straight behind the destination and its relative token, before the first source".
+-- An instruction that may be predicated has its destination first and sources behind it, and a relative token belongs to its operand; one that
+-- has no operand may not be, and its bit 28 is BITS.
 abbrev pub withPredicate : Bool → List Place → List Place
-withPredicate predicated [] = pick predicated (predicate ∷ []) []
-withPredicate predicated (place ∷ places) = place ∷ withPredicate predicated places
+withPredicate predicated [] = []
+withPredicate predicated (first ∷ sources) = first ∷ pick predicated (predicate ∷ sources) sources
 
 -- "Bits 23:16 are 1 to 6 for IFC, BREAKC, SETP; 0 to 2 for TEX; else 0."
 abbrev pub controlsLaid : ℕ → ℕ → Bool

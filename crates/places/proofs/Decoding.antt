@@ -3,14 +3,12 @@ use Prim.Native.Nat.{ℕ, zero, suc, _+_, _*_, _/_, _%_, _^_, _≤_, _<_}
 use mathlib.Core.Path.{_≡_, refl, sym, ap, _∙_}
 use mathlib.Core.Bool.{Bool, true, false, _&&_}
 use mathlib.Core.List.{List, [], _∷_}
-use native.Mathlib.Nat.{le-of-suc-le-suc, not-suc-le-zero, mul-suc}
+use native.Mathlib.Nat.{le-of-suc-le-suc, not-suc-le-zero}
 use native.Mathlib.Omega.{arith}
 use lib.Dec.{eqb}
 use lib.ListN.{length}
-use lib.Pow.{pow-add}
 use borrow.Author.Tests.{eq-eqb, ne-eqb}
-use Rattle.places.specs.Places.{digits}
-use Rattle.places.specs.Places.{placeBy, numberBy, placesIn, decoded}
+use Rattle.places.specs.Places.{placeBy, numberBy, digits, predicatedRow, placesIn, decoded}
 use Rattle.paper.proofs.Bools.{both-left, both-right}
 use Rattle.paper.specs.Places.{Place, predicate}
 use Rattle.paper.specs.InstructionToken.{withPredicate}
@@ -75,22 +73,14 @@ decoded-places places t h = placesIn-digits 10 places t h
 
 pub without-predicate : (places : List Place) → withPredicate false places ≡ places
 without-predicate [] = refl
-without-predicate (place ∷ places) = ap (λ rest. place ∷ rest) (without-predicate places)
+without-predicate (place ∷ places) = refl
 
-next-digit : (n : ℕ) → 2 ^ (7 * suc n) ≡ 2 ^ (7 * n) * 128
-next-digit n = rw (mul-suc 7 n) (pow-add 2 (7 * n) 7)
+-- the predicate is the second digit
+module _ (place : Place) (places : List Place) (t : arePlaces (place ∷ places) ≡ true) where
+  digits-predicated : predicatedRow (digits (place ∷ places)) ≡ digits (withPredicate true (place ∷ places))
+  digits-predicated =
+      let small = number-small place (both-left (isPlace place) (arePlaces places) t) in
+      rw (low-digit (numberBy place) (digits places) small, high-digits (numberBy place) (digits places) small)
 
--- the predicate is the digit behind the last
-pub digits-predicated : (places : List Place) → digits places + numberBy predicate * 2 ^ (7 * length places) ≡ digits (withPredicate true places)
-digits-predicated [] = refl
-digits-predicated (place ∷ places) =
-    rw (next-digit (length places)) (omega (arith, digits-predicated places))
-
-pub predicated-places : (places : List Place) → arePlaces places ≡ true → arePlaces (withPredicate true places) ≡ true
-predicated-places [] t = refl
-predicated-places (place ∷ places) t =
-    rw (both-left (isPlace place) (arePlaces places) t) (predicated-places places (both-right (isPlace place) (arePlaces places) t))
-
-pub predicated-length : (places : List Place) → length (withPredicate true places) ≡ suc (length places)
-predicated-length [] = refl
-predicated-length (place ∷ places) = ap suc (predicated-length places)
+  pub predicated-back : length places ≤ 8 → decoded (predicatedRow (digits (place ∷ places))) ≡ withPredicate true (place ∷ places)
+  predicated-back few = rw digits-predicated (decoded-places (place ∷ (predicate ∷ places)) t (omega arith))

@@ -46,6 +46,10 @@ abbrev pub digits : List Place → ℕ
 digits [] = 0
 digits (place ∷ places) = numberBy place + 128 * digits places
 
+-- a row with the predicate behind its first place
+abbrev pub predicatedRow : ℕ → ℕ
+predicatedRow row = row % 128 + 128 * (numberBy predicate + 128 * (row / 128))
+
 -- read back: at most so many places; no place has number 0, so that 0 says there is none left
 abbrev pub placesIn : ℕ → ℕ → List Place
 placesIn zero p = []

@@ -62,8 +62,8 @@ mov-read : tells 0xFFFE0200 mov 1 ≡
 unfolding tells yes destination source instruction mov rows entryOf typedPlaces tokenAt declaration classOf tokenHead operand operands judged operandOf operandAt widthAt inOrder predicateOr arrayOf recordOf readingAt reading toldReading
 mov-read = refl
 
--- (p0) mov r1, c2[a0.x]: the predicate is last among the tokens and in the record, and the index stands with its source
-predicated-read : tells 0xFFFE0300 (0x14000001 ∷ 0x800F0001 ∷ 0xA0E42002 ∷ 0xB0000000 ∷ 0xB0E41000 ∷ []) 0 ≡
+-- (p0) mov r1, c2[a0.x]: the predicate is second among the operands and last in the record, and the index stands with its source
+predicated-read : tells 0xFFFE0300 (0x14000001 ∷ 0x800F0001 ∷ 0xB0E41000 ∷ 0xA0E42002 ∷ 0xB0000000 ∷ []) 0 ≡
     yes 5 (instruction 1 1 (destination 0 1 0xF ∷ indexed 2 2 0xE4 3 0 0 ∷ noOperand ∷ noOperand ∷ noOperand ∷ source 19 0 0xE4 ∷ []))
 unfolding tells yes destination source indexed instruction rows entryOf typedPlaces tokenAt declaration classOf tokenHead operand operands judged operandOf operandAt widthAt inOrder predicateOr arrayOf recordOf readingAt reading toldReading
 predicated-read = refl

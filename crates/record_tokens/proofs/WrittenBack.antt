@@ -25,14 +25,13 @@ use Rattle.records.proofs.Passed.{AllPassed}
 use Rattle.records.proofs.Rows.{row-few, row-passed}
 use Rattle.record_tokens.specs.Tokens.{Words, rowTokens, tokensOf, bodyOn, commentBody}
 use Rattle.record_tokens.proofs.Digits.{instruction-back, comment-back}
-use Rattle.record_tokens.proofs.Operands.{words-take, single, row-back}
+use Rattle.record_tokens.proofs.Operands.{words-take, single, unpredicated-single, row-back}
 
 row-single : (predicated : Bool) (row : List Place) → unpredicated row ≡ true → single (withPredicate predicated row) ≡ true
-row-single true [] h = refl
-row-single false [] h = refl
-row-single predicated (place ∷ row) h =
-    rw (not-true (isPredicate place) (both-left (not (isPredicate place)) _ h))
-    (row-single predicated row (both-right (not (isPredicate place)) _ h))
+row-single predicated [] h = refl
+row-single true (place ∷ row) h =
+    rw (not-true (isPredicate place) (both-left (not (isPredicate place)) _ h)) (both-right (not (isPredicate place)) _ h)
+row-single false (place ∷ row) h = unpredicated-single (place ∷ row) h
 
 -- the operands of a record
 padded-length : (n : ℕ) (operands : List Operand) → length (padded n operands) ≡ n

@@ -46,11 +46,17 @@ at-most : (b : Bool) (n m : ℕ) → n ≤ m → pick b n (suc n) ≤ suc m
 at-most true n m h = omega arith
 at-most false n m h = omega arith
 
+ordered-few : (row : List Place) → ordered row ≤ length row
+unfolding ordered
+ordered-few [] = omega arith
+ordered-few (place ∷ row) = at-most (isPredicate place) _ _ (ordered-few row)
+
+-- the predicate is none of them
 ordered-predicated : (predicated : Bool) (row : List Place) → ordered (withPredicate predicated row) ≤ length row
 unfolding ordered
-ordered-predicated true [] = omega arith
-ordered-predicated false [] = omega arith
-ordered-predicated predicated (place ∷ row) = at-most (isPredicate place) _ _ (ordered-predicated predicated row)
+ordered-predicated predicated [] = omega arith
+ordered-predicated true (place ∷ row) = ordered-few (place ∷ row)
+ordered-predicated false (place ∷ row) = ordered-few (place ∷ row)
 
 module _ (v : Version) (token : ℕ) (places : List Place) (e : entryOf v (opcodeOf token) ≡ listed places) (laid : bitsLaid v token places ≡ true) where
   dcl-row : opcodeOf token ≡ DCL → withPredicate (isPredicated token) places ≡ declaredRow

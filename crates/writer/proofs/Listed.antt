@@ -4,20 +4,19 @@ use mathlib.Core.Bool.{Bool, true, false, _&&_, _||_}
 use mathlib.Core.List.{List, [], _∷_}
 use Prim.Native.Nat.{ℕ, _≤_}
 use native.Mathlib.Omega.{arith}
-use lib.Dec.{eqb}
+use lib.Dec.{eqb, lit≤}
 use lib.ListN.{length}
 use borrow.Author.Tests.{eq-eqb, ne-eqb, eqb-true}
 use Rattle.paper.specs.Notation.{bit, bits}
-use Rattle.paper.specs.Versions.{hasPredicates}
 use Rattle.paper.specs.InstructionToken.{opcodeOf, controlsOf, isPredicated, controlsLaid, bitsLaid, mayBePredicated, withPredicate, endOpcode, endToken}
 use Rattle.paper.specs.Places.{Entry, absent, listed, entryOf, Place}
 use Rattle.paper.specs.declared.Version.{Version}
-use Rattle.paper.proofs.Bools.{apart, never, both-right}
+use Rattle.paper.proofs.Bools.{both-right}
 use Rattle.paper.proofs.FirstToken.{Other}
-use Rattle.places.specs.Places.{decoded}
-use Rattle.places.proofs.Decoding.{decoded-zero, without-predicate, predicated-length}
+use Rattle.places.specs.Places.{digits, predicatedRow, decoded}
+use Rattle.places.proofs.Decoding.{arePlaces, decoded-zero, without-predicate, predicated-back}
 use Rattle.opcodes.specs.Shape.{shapeOf}
-use Rattle.opcodes.proofs.Shapes.{shape-absent, shape-places, shape-step, few, decoded-digits, decoded-predicated}
+use Rattle.opcodes.proofs.Shapes.{shape-absent, shape-places, few, are-places, decoded-digits, decoded-predicated}
 use Rattle.instruction_token.specs.ByShape.{placesBy}
 use Rattle.records.specs.declared.Operand.{Operand}
 use Rattle.records.specs.declared.Record.{Record}
@@ -25,32 +24,29 @@ use Rattle.records.specs.Record.{operandCount, instructionRecord}
 use Rattle.record_tokens.specs.Tokens.{tokensOf}
 use Rattle.writer.specs.Row.{rowNumber, rowOf, encodedBy, encodedTokens}
 
--- what may be predicated has an operand
-some-place : (v : Version) (opcode : ℕ) (places : List Place) → mayBePredicated v opcode places ≡ true → length places ≡ 0 → ⊥
-some-place v opcode [] may z = let no = both-right (hasPredicates v) false may in never no
-some-place v opcode (place ∷ places) may z = omega arith
+-- a row with the predicate is short enough, also where no instruction has it
+marked-few : (places : List Place) → arePlaces places ≡ true → length places ≤ 5 → length (decoded (predicatedRow (digits places))) ≤ operandCount
+unfolding decoded
+marked-few [] are few = lit≤ tt
+marked-few (place ∷ places) are few = rw (predicated-back place places are (omega arith)) (omega arith)
 
 module _ (v : Version) (opcode : ℕ) where
   module _ (places : List Place) (e : entryOf v opcode ≡ listed places) where
     row-listed : (marked : Bool) → (marked ≡ true → mayBePredicated v opcode places ≡ true) → decoded (rowNumber (shapeOf v opcode) marked) ≡ withPredicate marked places
     unfolding rowNumber placesBy
     row-listed false m = rw (shape-places v opcode places e, decoded-digits v opcode places e) (sym (without-predicate places))
-    row-listed true m =
-        rw (shape-step v opcode places e, m refl, ne-eqb (length places) 0 (some-place v opcode places (m refl)), shape-places v opcode places e)
-        (rw (m refl) at (decoded-predicated v opcode places e (m refl)))
+    row-listed true m = rw (shape-places v opcode places e) (decoded-predicated v opcode places e (m refl))
 
-    few-by : (marked may : Bool) → mayBePredicated v opcode places ≡ may → length (decoded (rowNumber (shapeOf v opcode) marked)) ≤ operandCount
-    unfolding rowNumber
-    few-by false may m =
-        rw (row-listed false (λ no. apart (cc)), without-predicate places) (omega (arith, few v opcode places e))
-    few-by true true m = rw (row-listed true (λ is. m), predicated-length places) (omega (arith, few v opcode places e))
-    few-by true false m = rw (shape-step v opcode places e, m, decoded-zero) (omega arith)
+    listed-few : (marked : Bool) → length (decoded (rowNumber (shapeOf v opcode) marked)) ≤ operandCount
+    unfolding rowNumber placesBy
+    listed-few false = rw (shape-places v opcode places e, decoded-digits v opcode places e) (omega (arith, few v opcode places e))
+    listed-few true = rw (shape-places v opcode places e) (marked-few places (are-places v opcode places e) (few v opcode places e))
 
   entry-few : (marked : Bool) (entry : Entry) → entryOf v opcode ≡ entry → length (decoded (rowNumber (shapeOf v opcode) marked)) ≤ operandCount
   unfolding rowNumber placesBy
   entry-few false absent e = rw (shape-absent v opcode e, decoded-zero) (omega arith)
-  entry-few true absent e = rw (shape-absent v opcode e, decoded-zero) (omega arith)
-  entry-few marked (listed places) e = few-by places e marked (mayBePredicated v opcode places) refl
+  entry-few true absent e = rw (shape-absent v opcode e) (marked-few [] refl (omega arith))
+  entry-few marked (listed places) e = listed-few places e marked
 
   pub row-few : (marked : Bool) → length (decoded (rowNumber (shapeOf v opcode) marked)) ≤ operandCount
   row-few marked = entry-few marked (entryOf v opcode) refl

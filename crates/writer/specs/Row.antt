@@ -10,7 +10,7 @@ use Rattle.paper.specs.InstructionToken.{endOpcode, endToken}
 use Rattle.paper.specs.Places.{Place}
 use Rattle.paper.specs.declared.Version.{Version}
 use Rattle.places.specs.Places.{decoded}
-use Rattle.opcodes.specs.Shape.{shapeOf, stepIn}
+use Rattle.opcodes.specs.Shape.{shapeOf}
 use Rattle.instruction_token.specs.ByShape.{placesBy}
 use Rattle.records.specs.declared.Record.{Record}
 use Rattle.records.specs.Record.{operandCount}
@@ -20,10 +20,9 @@ use Rattle.record_tokens.specs.Tokens.{instructionToken, tokensBehind}
 abbrev pub mostEncoded : ℕ
 mostEncoded = 1 + 2 * operandCount
 
--- the places of a shape, and the predicate's where the record is marked; none where it may not be
+-- the places of a shape, and the predicate's where the record is marked
 unfoldable pub rowNumber : ℕ → Bool → ℕ
-rowNumber shape marked =
-    pick marked (pick (eqb (stepIn shape) 0) 0 (placesBy shape (2 ^ 28))) (placesBy shape 0)
+rowNumber shape marked = placesBy shape (pick marked (2 ^ 28) 0)
 
 abbrev pub rowOf : Version → Record → List Place
 rowOf v r = decoded (rowNumber (shapeOf v (r .opcode)) (eqb (r .predicated) 1))

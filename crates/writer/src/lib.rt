@@ -182,17 +182,14 @@ fn put_row(room: &mut [u32], row: u64, operands: [Operand; records::OPERANDS]) -
     next
 }
 
-// The places of an opcode of this shape, and the predicate's where a record is marked; none where it may not be.
+// The places of an opcode of this shape, and the predicate's where a record is marked.
 fn row_of(shape: u64, marked: bool) -> u64
     ensures { λ r. ⌜ r ≡ rowNumber shape marked ⌝ }
 {
-    if !marked {
-        return instruction_token::places_of(shape, 0);
+    if marked {
+        return instruction_token::places_of(shape, MARK);
     }
-    if opcodes::step_in(shape) == 0 {
-        return 0;
-    }
-    instruction_token::places_of(shape, MARK)
+    instruction_token::places_of(shape, 0)
 }
 
 // The tokens of a record that is no comment's, at the front of the room. How many there are.

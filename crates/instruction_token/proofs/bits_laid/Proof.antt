@@ -12,7 +12,7 @@ returns c =
 
 returns-2 : tie.Need-returns-2
 unfolding bitsBy
-returns-2 c = rw (c .step-in .ensures, c .before .controls-laid .ensures, c .before .before .rule-in2 .ensures)
+returns-2 c = rw (c .may-be-predicated .ensures, c .before .controls-laid .ensures, c .before .before .rule-in2 .ensures)
 
 pub bits-laid-spec : {M : Type 1} → statement M
 bits-laid-spec =
