@@ -92,9 +92,6 @@ module _ (places mark rule class : ℕ) (hp : places < 2 ^ 35) (hm : mark < 2) (
   packed-class : classIn (packed places mark rule class) ≡ class
   packed-class = omega arith
 
-  packed-bound : class < 16 → packed places mark rule class < 2 ^ 43
-  packed-bound few = omega arith
-
 -- the opcode has a shape exactly where the table lists it
 pub shape-absent : (v : Version) (opcode : ℕ) → entryOf v opcode ≡ absent → shapeOf v opcode ≡ 0
 unfolding shapeOf
@@ -146,9 +143,6 @@ module _ (v : Version) (opcode : ℕ) (places : List Place) (e : entryOf v opcod
 
   pub shape-class : classIn (shapeOf v opcode) ≡ classNumber (classOf opcode)
   shape-class = rw shape-listed (packed-class _ _ _ _ digits-small mark-few (rule-small opcode))
-
-  pub shape-bound : shapeOf v opcode < 2 ^ 43
-  shape-bound = rw shape-listed (packed-bound _ _ _ _ digits-small mark-few (rule-small opcode) (class-few (classOf opcode)))
 
   pub decoded-digits : decoded (digits places) ≡ places
   decoded-digits = decoded-places places are-places (omega (arith, few))
