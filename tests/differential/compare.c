@@ -1,6 +1,7 @@
 /*
  * The proved library beside the second program, on the same data: every answer, every record and every
- * buffer is compared. Prints each difference (the first few) and, last, 'N passed, M failed'.
+ * buffer is compared, and every record that was read is written back and compared with the stream. Prints
+ * each difference (the first few) and, last, 'N passed, M failed'.
  *
  *   compare [SEED [ROUNDS]]
  */
@@ -122,6 +123,15 @@ static bool same_reading(const struct second_read *expected, const struct santub
         && memcmp(&expected->record, &given->record, sizeof given->record) == 0;
 }
 
+/* The record of an instruction gives its tokens again: the stream is what is expected. */
+static void write_back(uint32_t version, const uint32_t *instruction, size_t length, struct santubeli_record record)
+{
+    uint32_t back[GENERATE_INSTRUCTION];
+    const struct santubeli_written given = santubeli_write(version, record, NULL, 0, back, GENERATE_INSTRUCTION, 0);
+    if (count(given.number == 0 && given.next == length && memcmp(back, instruction, length * sizeof *back) == 0))
+        show("write back", instruction, length);
+}
+
 static void read_at(uint32_t version, const uint32_t *tokens, size_t length, size_t at)
 {
     const struct second_read expected = second_read(version, tokens, length, at);
@@ -131,6 +141,8 @@ static void read_at(uint32_t version, const uint32_t *tokens, size_t length, siz
         printf("  at %zu: second %" PRIu32 "@%" PRIu32 " proved %" PRIu32 "@%zu\n", at, expected.number, expected.position,
                given.number, given.position);
     }
+    if (given.number == 0 && given.record.opcode != SECOND_COMMENT)
+        write_back(version, tokens + at, given.next - at, given.record);
 }
 
 /* Reads from boundary to boundary, and at some places between. */
