@@ -1,6 +1,6 @@
 -- The bits and the places of a first token, by the shape of its opcode.
 use mathlib.Core.Path.{_≡_, refl}
-use mathlib.Core.Bool.{Bool, true, false, _&&_, _||_}
+use mathlib.Core.Bool.{Bool, true, false, _&&_}
 use mathlib.Core.List.{List, [], _∷_}
 use Prim.Native.Nat.{ℕ, _/_, _%_, _^_, _<_}
 use native.Mathlib.Nat.{mod-lt}
@@ -12,7 +12,7 @@ use Rattle.paper.specs.OpcodeTable.{IFC, BREAKC, SETP, TEX}
 use Rattle.paper.specs.InstructionToken.{opcodeOf, controlsOf, isPredicated, mayBePredicated, withPredicate, controlsLaid, bitsLaid}
 use Rattle.paper.specs.Places.{listed, entryOf, Place}
 use Rattle.paper.specs.declared.Version.{Version}
-use Rattle.paper.proofs.Bools.{apart, both-left, both-right, and-true}
+use Rattle.paper.proofs.Bools.{both-left, both-right, and-true}
 use Rattle.places.specs.Places.{decoded}
 use Rattle.places.proofs.Decoding.{without-predicate}
 use Rattle.opcodes.specs.Shape.{shapeOf, ruleIn}
@@ -26,20 +26,12 @@ controls-by true textured controls = refl
 controls-by false true controls = refl
 controls-by false false controls = refl
 
-predicated-only : (zeros controls unpredicated may : Bool) → zeros && (controls && (unpredicated || may)) ≡ true → unpredicated ≡ false → may ≡ true
-predicated-only true true false may e f = e
-predicated-only true true true may e f = apart (cc)
-predicated-only true false unpredicated may e f = apart (cc)
-predicated-only false controls unpredicated may e f = apart (cc)
-
-one-not-zero : (n : ℕ) → n ≡ 1 → eqb n 0 ≡ false
-one-not-zero n h = ne-eqb n 0 (λ z. omega arith)
-
-may-be : (v : Version) (token : ℕ) (places : List Place) → bitsLaid v token places ≡ true → isPredicated token ≡ true →
+-- a first token that is laid out and predicated is one of an instruction that may be
+pub may-be : (v : Version) (token : ℕ) (places : List Place) → bitsLaid v token places ≡ true → isPredicated token ≡ true →
     mayBePredicated v (opcodeOf token) places ≡ true
 may-be v token places laid p =
-    predicated-only (eqb (bits 31 29 token) 0) (controlsLaid (opcodeOf token) (controlsOf token)) (eqb (bit 28 token) 0)
-    (mayBePredicated v (opcodeOf token) places) laid (one-not-zero (bit 28 token) (eqb-true _ _ p))
+    rw (eqb-true (bit 28 token) 1 p) at
+    (both-right (controlsLaid (opcodeOf token) (controlsOf token)) _ (both-right (eqb (bits 31 29 token) 0) _ laid))
 
 module _ (v : Version) (token : ℕ) (places : List Place) (e : entryOf v (opcodeOf token) ≡ listed places) where
   pub bits-by : bitsBy (shapeOf v (opcodeOf token)) token ≡ bitsLaid v token places

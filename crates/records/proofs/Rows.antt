@@ -1,15 +1,15 @@
 -- The row of places of an instruction of the table: DCL's, how many operands it has, and that tokens which fit it pass.
 use mathlib.Core.Path.{_≡_, refl, sym, ap, _∙_}
-use mathlib.Core.Bool.{Bool, true, false, _&&_, _||_}
+use mathlib.Core.Bool.{Bool, true, false}
 use mathlib.Core.List.{List, [], _∷_}
 use Prim.Native.Nat.{ℕ, suc, _≤_}
 use native.Mathlib.Omega.{arith}
 use lib.Dec.{eqb}
 use lib.ListN.{length}
 use borrow.Author.Tests.{eqb-true}
-use Rattle.paper.specs.Notation.{pick, bit, bits}
+use Rattle.paper.specs.Notation.{pick}
 use Rattle.paper.specs.OpcodeTable.{DCL, rows}
-use Rattle.paper.specs.InstructionToken.{opcodeOf, controlsOf, controlsLaid, hasDestination, isPredicated, bitsLaid, withPredicate}
+use Rattle.paper.specs.InstructionToken.{opcodeOf, hasDestination, isPredicated, bitsLaid, withPredicate}
 use Rattle.paper.specs.Dcl.{declaration}
 use Rattle.paper.specs.Instruction.{operands, operandsOf}
 use Rattle.paper.specs.Versions.{hasPredicates}
@@ -17,8 +17,9 @@ use Rattle.paper.specs.Places.{listed, entryOf, typedPlaces, Place, isPredicate
 use Rattle.paper.specs.declared.Version.{Version}
 use Rattle.paper.specs.declared.Version.the-variants.{V2, V3, P2, P3}
 use Rattle.paper.specs.declared.Operands.the-variants.{Fit}
-use Rattle.paper.proofs.Bools.{apart}
+use Rattle.paper.proofs.Bools.{never, both-right}
 use Rattle.opcodes.proofs.Shapes.{few}
+use Rattle.instruction_token.proofs.ByShape.{may-be}
 use Rattle.records.specs.Record.{predicateSlot}
 use Rattle.records.specs.ByClass.{ordered}
 use Rattle.records.proofs.Passed.{AllPassed, all-passed}
@@ -31,15 +32,6 @@ declared-entry V2 = refl
 declared-entry V3 = refl
 declared-entry P2 = refl
 declared-entry P3 = refl
-
-only-zero : (zeros controls unpredicated third has : Bool) →
-    zeros && (controls && (unpredicated || (third && (has && false)))) ≡ true → unpredicated ≡ true
-only-zero true true true third has e = refl
-only-zero true true false true true e = e
-only-zero true true false true false e = e
-only-zero true true false false has e = e
-only-zero true false unpredicated third has e = apart (cc)
-only-zero false controls unpredicated third has e = apart (cc)
 
 -- at most five operands stand in token order
 at-most : (b : Bool) (n m : ℕ) → n ≤ m → pick b n (suc n) ≤ suc m
@@ -63,8 +55,11 @@ module _ (v : Version) (token : ℕ) (places : List Place) (e : entryOf v (opcod
   dcl-row d =
       let same : listed places ≡ listed declaredRow = sym e ∙ ap (entryOf v) d ∙ declared-entry v in
       let row : places ≡ declaredRow = cc in
-      let none : bit 28 token ≡ 0 = eqb-true _ _ (only-zero (eqb (bits 31 29 token) 0) (controlsLaid DCL (controlsOf token)) (eqb (bit 28 token) 0) (hasPredicates v) (hasDestination places) (rw d at laid)) in
-      rw (none, row)
+      by row (isPredicated token) refl
+    where
+      by : places ≡ declaredRow → (predicated : Bool) → isPredicated token ≡ predicated → withPredicate (isPredicated token) places ≡ declaredRow
+      by row true p = never (both-right (hasDestination places) _ (both-right (hasPredicates v) _ (rw d at (may-be v token places laid p))))
+      by row false p = rw (p, row)
 
   pub row-few : ordered (withPredicate (isPredicated token) places) ≤ predicateSlot
   row-few = omega (arith, ordered-predicated (isPredicated token) places, few v (opcodeOf token) places e)

@@ -1,23 +1,22 @@
 -- The row of places that the code finds for a record, and the tokens that the record is encoded by.
 use mathlib.Core.Path.{_≡_, refl, sym}
-use mathlib.Core.Bool.{Bool, true, false, _&&_, _||_}
+use mathlib.Core.Bool.{Bool, true, false}
 use mathlib.Core.List.{List, [], _∷_}
 use Prim.Native.Nat.{ℕ, _≤_}
 use native.Mathlib.Omega.{arith}
-use lib.Dec.{eqb, lit≤}
+use lib.Dec.{lit≤}
 use lib.ListN.{length}
-use borrow.Author.Tests.{eq-eqb, ne-eqb, eqb-true}
-use Rattle.paper.specs.Notation.{bit, bits}
-use Rattle.paper.specs.InstructionToken.{opcodeOf, controlsOf, isPredicated, controlsLaid, bitsLaid, mayBePredicated, withPredicate, endOpcode, endToken}
+use borrow.Author.Tests.{eq-eqb, ne-eqb}
+use Rattle.paper.specs.InstructionToken.{opcodeOf, isPredicated, bitsLaid, mayBePredicated, withPredicate, endOpcode, endToken}
 use Rattle.paper.specs.Places.{Entry, absent, listed, entryOf, Place}
 use Rattle.paper.specs.declared.Version.{Version}
-use Rattle.paper.proofs.Bools.{both-right}
 use Rattle.paper.proofs.FirstToken.{Other}
 use Rattle.places.specs.Places.{digits, predicatedRow, decoded}
 use Rattle.places.proofs.Decoding.{arePlaces, decoded-zero, without-predicate, predicated-back}
 use Rattle.opcodes.specs.Shape.{shapeOf}
 use Rattle.opcodes.proofs.Shapes.{shape-absent, shape-places, few, are-places, decoded-digits, decoded-predicated}
 use Rattle.instruction_token.specs.ByShape.{placesBy}
+use Rattle.instruction_token.proofs.ByShape.{may-be}
 use Rattle.records.specs.declared.Operand.{Operand}
 use Rattle.records.specs.declared.Record.{Record}
 use Rattle.records.specs.Record.{operandCount, instructionRecord}
@@ -60,9 +59,6 @@ module _ (v : Version) (r : Record) where
   unfolding encodedTokens
   other-encoded n = rw (ne-eqb (r .opcode) endOpcode n)
 
-may-be : (zeros controls may : Bool) (mark : ℕ) → (zeros && (controls && (eqb mark 0 || may))) ≡ true → eqb mark 1 ≡ true → may ≡ true
-may-be zeros controls may mark laid is = rw (eqb-true mark 1 is) at (both-right controls _ (both-right zeros _ laid))
-
 -- a token of an instruction of the table, whose bits are laid out
 pub record IsListed (v : Version) (token : ℕ) : Type 0 where
   pub places : List Place
@@ -79,6 +75,5 @@ listed-encoded v first operands l =
       l .other .no-comment,
       l .other .no-end,
       l .entry,
-      row-listed v (opcodeOf first) (l .places) (l .entry) (isPredicated first)
-          (may-be (eqb (bits 31 29 first) 0) (controlsLaid (opcodeOf first) (controlsOf first)) (mayBePredicated v (opcodeOf first) (l .places)) (bit 28 first) (l .laid)),
+      row-listed v (opcodeOf first) (l .places) (l .entry) (isPredicated first) (may-be v first (l .places) (l .laid)),
     )
