@@ -1,12 +1,12 @@
 -- The descent does not depend on its bound where that is enough: it has the equations of the grammar.
 use Prim.Native.Nat.{ℕ, zero, suc, _+_, _≤_}
 use mathlib.Core.Path.{_≡_, refl, ap, _∙_}
-use mathlib.Core.Bool.{Bool, true, false}
+use mathlib.Core.Bool.{Bool, true, false, _||_}
 use native.Mathlib.Omega.{arith}
 use lib.Dec.{ltb}
 use Rattle.paper.specs.Notation.{pick}
 use Rattle.paper.specs.Numbers.{refusal}
-use Rattle.paper.specs.Blocks.{Cut, out, wrong, then, mayStand, loopsIn, mostOpen}
+use Rattle.paper.specs.Blocks.{Cut, out, wrong, then, mayStand, classPhase, loopsIn, mostOpen}
 use Rattle.paper.specs.Walk.{Kind, opened, pastElse, closes, elses}
 use Rattle.paper.specs.declared.Class.{Class}
 use Rattle.paper.specs.declared.Class.the-variants.{One, Opens, Closes}
@@ -61,29 +61,29 @@ module _ (n : ℕ) where
 mutual
   unfolding body fuel
 
-  pub leaves-body : (most depth : ℕ) (inLoop : Bool) (a : Cut) → BodyLeaves (fuel a) (body most depth inLoop a)
-  leaves-body zero depth inLoop a = tt
-  leaves-body (suc most) depth inLoop (out p) = tt
-  leaves-body (suc most) depth inLoop (wrong p r) = tt
-  leaves-body (suc most) depth inLoop (then c p a) =
-      leaves-item (fuel (then c p a)) (λ b. body most depth inLoop b) (λ b. leaves-body most depth inLoop b)
-      (item most depth inLoop c p a)
-      (wider-item (fuel a + 3) (fuel (then c p a)) (omega arith) (item most depth inLoop c p a) (leaves-one most depth inLoop c p a))
+  pub leaves-body : (most depth : ℕ) (inLoop phased : Bool) (a : Cut) → BodyLeaves (fuel a) (body most depth inLoop phased a)
+  leaves-body zero depth inLoop phased a = tt
+  leaves-body (suc most) depth inLoop phased (out p) = tt
+  leaves-body (suc most) depth inLoop phased (wrong p r) = tt
+  leaves-body (suc most) depth inLoop phased (then c p a) =
+      leaves-item (fuel (then c p a)) (λ b. body most depth inLoop (phased || classPhase c) b) (λ b. leaves-body most depth inLoop (phased || classPhase c) b)
+      (item most depth inLoop phased c p a)
+      (wider-item (fuel a + 3) (fuel (then c p a)) (omega arith) (item most depth inLoop phased c p a) (leaves-one most depth inLoop phased c p a))
 
-  pub leaves-one : (most depth : ℕ) (inLoop : Bool) (c : Class) (p : ℕ) (a : Cut) → ItemLeaves (fuel a + 3) (item most depth inLoop c p a)
-  leaves-one zero depth inLoop c p a = tt
-  leaves-one (suc most) depth inLoop (One s) p a =
-      leaves-pick (fuel a + 3) (mayStand depth inLoop s) (passed a) (refused (refusal BLOCK p)) (omega arith) tt
-  leaves-one (suc most) depth inLoop (Opens o) p a =
-      leaves-pick (fuel a + 3) (ltb depth mostOpen) (block most depth inLoop o a) (refused (refusal DEPTH p))
-      (wider-item (fuel a) (fuel a + 3) (omega arith) (block most depth inLoop o a) (leaves-block most depth inLoop o a)) tt
-  leaves-one (suc most) depth inLoop (Closes c) p a = omega arith
+  pub leaves-one : (most depth : ℕ) (inLoop phased : Bool) (c : Class) (p : ℕ) (a : Cut) → ItemLeaves (fuel a + 3) (item most depth inLoop phased c p a)
+  leaves-one zero depth inLoop phased c p a = tt
+  leaves-one (suc most) depth inLoop phased (One s) p a =
+      leaves-pick (fuel a + 3) (mayStand depth inLoop phased s) (passed a) (refused (refusal BLOCK p)) (omega arith) tt
+  leaves-one (suc most) depth inLoop phased (Opens o) p a =
+      leaves-pick (fuel a + 3) (ltb depth mostOpen) (block most depth inLoop phased o a) (refused (refusal DEPTH p))
+      (wider-item (fuel a) (fuel a + 3) (omega arith) (block most depth inLoop phased o a) (leaves-block most depth inLoop phased o a)) tt
+  leaves-one (suc most) depth inLoop phased (Closes c) p a = omega arith
 
-  pub leaves-block : (most depth : ℕ) (inLoop : Bool) (o : Opener) (a : Cut) → ItemLeaves (fuel a) (block most depth inLoop o a)
-  leaves-block zero depth inLoop o a = tt
-  leaves-block (suc most) depth inLoop o a =
-      leaves-first (fuel a) o (λ b. body most (suc depth) inLoop b) (λ b. leaves-body most (suc depth) inLoop b)
-      (body most (suc depth) (loopsIn o inLoop) a) (leaves-body most (suc depth) (loopsIn o inLoop) a)
+  pub leaves-block : (most depth : ℕ) (inLoop phased : Bool) (o : Opener) (a : Cut) → ItemLeaves (fuel a) (block most depth inLoop phased o a)
+  leaves-block zero depth inLoop phased o a = tt
+  leaves-block (suc most) depth inLoop phased o a =
+      leaves-first (fuel a) o (λ b. body most (suc depth) inLoop phased b) (λ b. leaves-body most (suc depth) inLoop phased b)
+      (body most (suc depth) (loopsIn o inLoop) phased a) (leaves-body most (suc depth) (loopsIn o inLoop) phased a)
 
 -- a continuation matters only where it is asked
 module _ (n : ℕ) (f g : Cut → BodyEnd) (same : (a : Cut) → fuel a + 3 ≤ n → f a ≡ g a) where
@@ -105,92 +105,92 @@ fuel-some (then c p a) = omega arith
 mutual
   unfolding body fuel
 
-  pub same-body : (m n depth : ℕ) (inLoop : Bool) (a : Cut) → fuel a ≤ m + 2 → fuel a ≤ n + 2 → body m depth inLoop a ≡ body n depth inLoop a
-  same-body zero n depth inLoop a h j = absurd (omega (arith, fuel-some a))
-  same-body (suc m) zero depth inLoop a h j = absurd (omega (arith, fuel-some a))
-  same-body (suc m) (suc n) depth inLoop (out p) h j = refl
-  same-body (suc m) (suc n) depth inLoop (wrong p r) h j = refl
-  same-body (suc m) (suc n) depth inLoop (then c p a) h j =
-      same-item (fuel a + 3) (λ b. body m depth inLoop b) (λ b. body n depth inLoop b)
-      (λ b lt. same-body m n depth inLoop b (omega arith) (omega arith))
-      (item m depth inLoop c p a) (leaves-one m depth inLoop c p a)
-      ∙ ap (λ e. onItem e (λ b. body n depth inLoop b)) (same-one m n depth inLoop c p a (omega arith) (omega arith))
+  pub same-body : (m n depth : ℕ) (inLoop phased : Bool) (a : Cut) → fuel a ≤ m + 2 → fuel a ≤ n + 2 → body m depth inLoop phased a ≡ body n depth inLoop phased a
+  same-body zero n depth inLoop phased a h j = absurd (omega (arith, fuel-some a))
+  same-body (suc m) zero depth inLoop phased a h j = absurd (omega (arith, fuel-some a))
+  same-body (suc m) (suc n) depth inLoop phased (out p) h j = refl
+  same-body (suc m) (suc n) depth inLoop phased (wrong p r) h j = refl
+  same-body (suc m) (suc n) depth inLoop phased (then c p a) h j =
+      same-item (fuel a + 3) (λ b. body m depth inLoop (phased || classPhase c) b) (λ b. body n depth inLoop (phased || classPhase c) b)
+      (λ b lt. same-body m n depth inLoop (phased || classPhase c) b (omega arith) (omega arith))
+      (item m depth inLoop phased c p a) (leaves-one m depth inLoop phased c p a)
+      ∙ ap (λ e. onItem e (λ b. body n depth inLoop (phased || classPhase c) b)) (same-one m n depth inLoop phased c p a (omega arith) (omega arith))
 
-  pub same-one : (m n depth : ℕ) (inLoop : Bool) (c : Class) (p : ℕ) (a : Cut) → fuel a ≤ m → fuel a ≤ n →
-      item m depth inLoop c p a ≡ item n depth inLoop c p a
-  same-one zero n depth inLoop c p a h j = absurd (omega (arith, fuel-some a))
-  same-one (suc m) zero depth inLoop c p a h j = absurd (omega (arith, fuel-some a))
-  same-one (suc m) (suc n) depth inLoop (One s) p a h j = refl
-  same-one (suc m) (suc n) depth inLoop (Opens o) p a h j =
-      ap (λ e. pick (ltb depth mostOpen) e (refused (refusal DEPTH p))) (same-block m n depth inLoop o a (omega arith) (omega arith))
-  same-one (suc m) (suc n) depth inLoop (Closes c) p a h j = refl
+  pub same-one : (m n depth : ℕ) (inLoop phased : Bool) (c : Class) (p : ℕ) (a : Cut) → fuel a ≤ m → fuel a ≤ n →
+      item m depth inLoop phased c p a ≡ item n depth inLoop phased c p a
+  same-one zero n depth inLoop phased c p a h j = absurd (omega (arith, fuel-some a))
+  same-one (suc m) zero depth inLoop phased c p a h j = absurd (omega (arith, fuel-some a))
+  same-one (suc m) (suc n) depth inLoop phased (One s) p a h j = refl
+  same-one (suc m) (suc n) depth inLoop phased (Opens o) p a h j =
+      ap (λ e. pick (ltb depth mostOpen) e (refused (refusal DEPTH p))) (same-block m n depth inLoop phased o a (omega arith) (omega arith))
+  same-one (suc m) (suc n) depth inLoop phased (Closes c) p a h j = refl
 
-  pub same-block : (m n depth : ℕ) (inLoop : Bool) (o : Opener) (a : Cut) → fuel a ≤ m + 1 → fuel a ≤ n + 1 →
-      block m depth inLoop o a ≡ block n depth inLoop o a
-  same-block zero n depth inLoop o a h j = absurd (omega (arith, fuel-some a))
-  same-block (suc m) zero depth inLoop o a h j = absurd (omega (arith, fuel-some a))
-  same-block (suc m) (suc n) depth inLoop o a h j =
-      same-first (fuel a) (λ b. body m (suc depth) inLoop b) (λ b. body n (suc depth) inLoop b)
-      (λ b lt. same-body m n (suc depth) inLoop b (omega arith) (omega arith))
-      o (body m (suc depth) (loopsIn o inLoop) a) (leaves-body m (suc depth) (loopsIn o inLoop) a)
-      ∙ ap (λ e. onFirst o e (λ b. body n (suc depth) inLoop b)) (same-body m n (suc depth) (loopsIn o inLoop) a (omega arith) (omega arith))
+  pub same-block : (m n depth : ℕ) (inLoop phased : Bool) (o : Opener) (a : Cut) → fuel a ≤ m + 1 → fuel a ≤ n + 1 →
+      block m depth inLoop phased o a ≡ block n depth inLoop phased o a
+  same-block zero n depth inLoop phased o a h j = absurd (omega (arith, fuel-some a))
+  same-block (suc m) zero depth inLoop phased o a h j = absurd (omega (arith, fuel-some a))
+  same-block (suc m) (suc n) depth inLoop phased o a h j =
+      same-first (fuel a) (λ b. body m (suc depth) inLoop phased b) (λ b. body n (suc depth) inLoop phased b)
+      (λ b lt. same-body m n (suc depth) inLoop phased b (omega arith) (omega arith))
+      o (body m (suc depth) (loopsIn o inLoop) phased a) (leaves-body m (suc depth) (loopsIn o inLoop) phased a)
+      ∙ ap (λ e. onFirst o e (λ b. body n (suc depth) inLoop phased b)) (same-body m n (suc depth) (loopsIn o inLoop) phased a (omega arith) (omega arith))
 
 -- no token where an instruction must start
-pub body-out : (depth : ℕ) (inLoop : Bool) (p : ℕ) → bodyOf depth inLoop (out p) ≡ broken (refusal RUN-OUT p)
+pub body-out : (depth : ℕ) (inLoop phased : Bool) (p : ℕ) → bodyOf depth inLoop phased (out p) ≡ broken (refusal RUN-OUT p)
 unfolding bodyOf body fuel
-body-out depth inLoop p = refl
+body-out depth inLoop phased p = refl
 
 -- an instruction that is refused by itself
-pub body-wrong : (depth : ℕ) (inLoop : Bool) (p : ℕ) (r : Refusal) → bodyOf depth inLoop (wrong p r) ≡ broken r
+pub body-wrong : (depth : ℕ) (inLoop phased : Bool) (p : ℕ) (r : Refusal) → bodyOf depth inLoop phased (wrong p r) ≡ broken r
 unfolding bodyOf body fuel
-body-wrong depth inLoop p r = refl
+body-wrong depth inLoop phased p r = refl
 
 -- an item, and the rest of the body
-pub body-then : (depth : ℕ) (inLoop : Bool) (c : Class) (p : ℕ) (a : Cut) →
-    bodyOf depth inLoop (then c p a) ≡ onItem (itemOf depth inLoop c p a) (λ b. bodyOf depth inLoop b)
+pub body-then : (depth : ℕ) (inLoop phased : Bool) (c : Class) (p : ℕ) (a : Cut) →
+    bodyOf depth inLoop phased (then c p a) ≡ onItem (itemOf depth inLoop phased c p a) (λ b. bodyOf depth inLoop (phased || classPhase c) b)
 unfolding bodyOf itemOf body fuel
-body-then depth inLoop c p a =
+body-then depth inLoop phased c p a =
     let most = suc (suc (fuel a)) in
-    same-item (fuel a + 3) (λ b. body most depth inLoop b) (λ b. bodyOf depth inLoop b)
-    (λ b lt. same-body most (fuel b) depth inLoop b (omega arith) (omega arith))
-    (item most depth inLoop c p a) (leaves-one most depth inLoop c p a)
-    ∙ ap (λ e. onItem e (λ b. bodyOf depth inLoop b)) (same-one most (fuel a) depth inLoop c p a (omega arith) (omega arith))
+    same-item (fuel a + 3) (λ b. body most depth inLoop (phased || classPhase c) b) (λ b. bodyOf depth inLoop (phased || classPhase c) b)
+    (λ b lt. same-body most (fuel b) depth inLoop (phased || classPhase c) b (omega arith) (omega arith))
+    (item most depth inLoop phased c p a) (leaves-one most depth inLoop phased c p a)
+    ∙ ap (λ e. onItem e (λ b. bodyOf depth inLoop (phased || classPhase c) b)) (same-one most (fuel a) depth inLoop phased c p a (omega arith) (omega arith))
 
-item-more : (depth : ℕ) (inLoop : Bool) (c : Class) (p : ℕ) (a : Cut) → itemOf depth inLoop c p a ≡ item (suc (fuel a)) depth inLoop c p a
+item-more : (depth : ℕ) (inLoop phased : Bool) (c : Class) (p : ℕ) (a : Cut) → itemOf depth inLoop phased c p a ≡ item (suc (fuel a)) depth inLoop phased c p a
 unfolding itemOf
-item-more depth inLoop c p a = same-one (fuel a) (suc (fuel a)) depth inLoop c p a (omega arith) (omega arith)
+item-more depth inLoop phased c p a = same-one (fuel a) (suc (fuel a)) depth inLoop phased c p a (omega arith) (omega arith)
 
 -- one instruction stands where its rule lets it
-pub item-one : (depth : ℕ) (inLoop : Bool) (s : Single) (p : ℕ) (a : Cut) →
-    itemOf depth inLoop (One s) p a ≡ pick (mayStand depth inLoop s) (passed a) (refused (refusal BLOCK p))
+pub item-one : (depth : ℕ) (inLoop phased : Bool) (s : Single) (p : ℕ) (a : Cut) →
+    itemOf depth inLoop phased (One s) p a ≡ pick (mayStand depth inLoop phased s) (passed a) (refused (refusal BLOCK p))
 unfolding item
-item-one depth inLoop s p a = item-more depth inLoop (One s) p a
+item-one depth inLoop phased s p a = item-more depth inLoop phased (One s) p a
 
 -- a block is opened where fewer than 24 are open
-pub item-opens : (depth : ℕ) (inLoop : Bool) (o : Opener) (p : ℕ) (a : Cut) →
-    itemOf depth inLoop (Opens o) p a ≡ pick (ltb depth mostOpen) (blockOf depth inLoop o a) (refused (refusal DEPTH p))
+pub item-opens : (depth : ℕ) (inLoop phased : Bool) (o : Opener) (p : ℕ) (a : Cut) →
+    itemOf depth inLoop phased (Opens o) p a ≡ pick (ltb depth mostOpen) (blockOf depth inLoop phased o a) (refused (refusal DEPTH p))
 unfolding item blockOf
-item-opens depth inLoop o p a = item-more depth inLoop (Opens o) p a
+item-opens depth inLoop phased o p a = item-more depth inLoop phased (Opens o) p a
 
 -- a closer is no item
-pub item-closes : (depth : ℕ) (inLoop : Bool) (c : Closer) (p : ℕ) (a : Cut) → itemOf depth inLoop (Closes c) p a ≡ closer c p a
+pub item-closes : (depth : ℕ) (inLoop phased : Bool) (c : Closer) (p : ℕ) (a : Cut) → itemOf depth inLoop phased (Closes c) p a ≡ closer c p a
 unfolding item
-item-closes depth inLoop c p a = item-more depth inLoop (Closes c) p a
+item-closes depth inLoop phased c p a = item-more depth inLoop phased (Closes c) p a
 
 -- a body, its closer, and of an IF perhaps a second body
-pub block-opened : (depth : ℕ) (inLoop : Bool) (o : Opener) (a : Cut) →
-    blockOf depth inLoop o a ≡ onFirst o (bodyOf (suc depth) (loopsIn o inLoop) a) (λ b. bodyOf (suc depth) inLoop b)
+pub block-opened : (depth : ℕ) (inLoop phased : Bool) (o : Opener) (a : Cut) →
+    blockOf depth inLoop phased o a ≡ onFirst o (bodyOf (suc depth) (loopsIn o inLoop) phased a) (λ b. bodyOf (suc depth) inLoop phased b)
 unfolding blockOf bodyOf body
-block-opened depth inLoop o a =
-    same-block (fuel a) (suc (fuel a)) depth inLoop o a (omega arith) (omega arith)
-    ∙ same-first (fuel a) (λ b. body (fuel a) (suc depth) inLoop b) (λ b. bodyOf (suc depth) inLoop b)
-    (λ b lt. same-body (fuel a) (fuel b) (suc depth) inLoop b (omega arith) (omega arith))
-    o (body (fuel a) (suc depth) (loopsIn o inLoop) a) (leaves-body (fuel a) (suc depth) (loopsIn o inLoop) a)
+block-opened depth inLoop phased o a =
+    same-block (fuel a) (suc (fuel a)) depth inLoop phased o a (omega arith) (omega arith)
+    ∙ same-first (fuel a) (λ b. body (fuel a) (suc depth) inLoop phased b) (λ b. bodyOf (suc depth) inLoop phased b)
+    (λ b lt. same-body (fuel a) (fuel b) (suc depth) inLoop phased b (omega arith) (omega arith))
+    o (body (fuel a) (suc depth) (loopsIn o inLoop) phased a) (leaves-body (fuel a) (suc depth) (loopsIn o inLoop) phased a)
 
 -- IF: the body ends at ENDIF, or at ELSE and a second one at ENDIF
-pub block-if : (depth : ℕ) (inLoop : Bool) (a : Cut) →
-    blockOf depth inLoop If a ≡ onFirst If (bodyOf (suc depth) inLoop a) (λ b. bodyOf (suc depth) inLoop b)
-block-if depth inLoop a = block-opened depth inLoop If a
+pub block-if : (depth : ℕ) (inLoop phased : Bool) (a : Cut) →
+    blockOf depth inLoop phased If a ≡ onFirst If (bodyOf (suc depth) inLoop phased a) (λ b. bodyOf (suc depth) inLoop phased b)
+block-if depth inLoop phased a = block-opened depth inLoop phased If a
 
 first-is-last : (o : Opener) (second : Cut → BodyEnd) → ((c : Closer) → elses c (opened o) ≡ false) → (e : BodyEnd) →
     onFirst o e second ≡ onLast (opened o) e
@@ -198,11 +198,11 @@ first-is-last o second h (stopped c p a) = rw (h c)
 first-is-last o second h (broken r) = refl
 
 -- LOOP: the body ends at ENDLOOP
-pub block-loop : (depth : ℕ) (inLoop : Bool) (a : Cut) → blockOf depth inLoop Loop a ≡ onLast (opened Loop) (bodyOf (suc depth) true a)
-block-loop depth inLoop a =
-    block-opened depth inLoop Loop a ∙ first-is-last Loop (λ b. bodyOf (suc depth) inLoop b) (λ c. refl) (bodyOf (suc depth) true a)
+pub block-loop : (depth : ℕ) (inLoop phased : Bool) (a : Cut) → blockOf depth inLoop phased Loop a ≡ onLast (opened Loop) (bodyOf (suc depth) true phased a)
+block-loop depth inLoop phased a =
+    block-opened depth inLoop phased Loop a ∙ first-is-last Loop (λ b. bodyOf (suc depth) inLoop phased b) (λ c. refl) (bodyOf (suc depth) true phased a)
 
 -- REP: the body ends at ENDREP
-pub block-rep : (depth : ℕ) (inLoop : Bool) (a : Cut) → blockOf depth inLoop Rep a ≡ onLast (opened Rep) (bodyOf (suc depth) true a)
-block-rep depth inLoop a =
-    block-opened depth inLoop Rep a ∙ first-is-last Rep (λ b. bodyOf (suc depth) inLoop b) (λ c. refl) (bodyOf (suc depth) true a)
+pub block-rep : (depth : ℕ) (inLoop phased : Bool) (a : Cut) → blockOf depth inLoop phased Rep a ≡ onLast (opened Rep) (bodyOf (suc depth) true phased a)
+block-rep depth inLoop phased a =
+    block-opened depth inLoop phased Rep a ∙ first-is-last Rep (λ b. bodyOf (suc depth) inLoop phased b) (λ c. refl) (bodyOf (suc depth) true phased a)

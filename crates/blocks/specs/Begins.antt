@@ -13,7 +13,7 @@ use Rattle.paper.specs.declared.Reason.the-variants.{Block as BLOCK, Depth as D
 
 -- "a stream is a body and END", and nothing stands behind
 abbrev pub Lawful : Cut → Type 0
-Lawful a = (p : ℕ) × (q : ℕ) × Body 0 false a (then (Closes End) p (out q))
+Lawful a = (p : ℕ) × (q : ℕ) × Body 0 false false a (then (Closes End) p (out q))
 
 -- a has these classes first, at whatever positions, and b follows
 pub data Leads : List Class → Cut → Cut → Type 0 where

@@ -1,10 +1,10 @@
 -- The grammar as a descent: what a body, an item and a block take, or the refusal.
 use Prim.Native.Nat.{ℕ, zero, suc}
-use mathlib.Core.Bool.{Bool, false}
+use mathlib.Core.Bool.{Bool, false, _||_}
 use lib.Dec.{ltb}
 use Rattle.paper.specs.Notation.{pick}
 use Rattle.paper.specs.Numbers.{refusal}
-use Rattle.paper.specs.Blocks.{Cut, out, wrong, then, mayStand, loopsIn, mostOpen}
+use Rattle.paper.specs.Blocks.{Cut, out, wrong, then, mayStand, classPhase, loopsIn, mostOpen}
 use Rattle.paper.specs.Walk.{Kind, opened, pastElse, isEnd, closes, elses, atEnd}
 use Rattle.paper.specs.declared.Class.{Class}
 use Rattle.paper.specs.declared.Class.the-variants.{One, Opens, Closes}
@@ -46,24 +46,24 @@ abbrev pub onFirst : Opener → BodyEnd → (Cut → BodyEnd) → ItemEnd
 onFirst o (stopped c p a) second = pick (elses c (opened o)) (onLast pastElse (second a)) (closing (opened o) c p a)
 onFirst o (broken r) second = refused r
 
--- the first number bounds how deep the calls go
+-- the first number bounds how deep the calls go; a body keeps the mark of a PHASE for its own items, and answers without it
 unfoldable mutual
-  pub body : ℕ → ℕ → Bool → Cut → BodyEnd
-  body zero depth inLoop a = broken (refusal RUN-OUT 0)
-  body (suc most) depth inLoop (out p) = broken (refusal RUN-OUT p)
-  body (suc most) depth inLoop (wrong p r) = broken r
-  body (suc most) depth inLoop (then c p a) = onItem (item most depth inLoop c p a) (λ b. body most depth inLoop b)
+  pub body : ℕ → ℕ → Bool → Bool → Cut → BodyEnd
+  body zero depth inLoop phased a = broken (refusal RUN-OUT 0)
+  body (suc most) depth inLoop phased (out p) = broken (refusal RUN-OUT p)
+  body (suc most) depth inLoop phased (wrong p r) = broken r
+  body (suc most) depth inLoop phased (then c p a) = onItem (item most depth inLoop phased c p a) (λ b. body most depth inLoop (phased || classPhase c) b)
 
-  pub item : ℕ → ℕ → Bool → Class → ℕ → Cut → ItemEnd
-  item zero depth inLoop c p a = refused (refusal RUN-OUT 0)
-  item (suc most) depth inLoop (One s) p a = pick (mayStand depth inLoop s) (passed a) (refused (refusal BLOCK p))
-  item (suc most) depth inLoop (Opens o) p a = pick (ltb depth mostOpen) (block most depth inLoop o a) (refused (refusal DEPTH p))
-  item (suc most) depth inLoop (Closes c) p a = closer c p a
+  pub item : ℕ → ℕ → Bool → Bool → Class → ℕ → Cut → ItemEnd
+  item zero depth inLoop phased c p a = refused (refusal RUN-OUT 0)
+  item (suc most) depth inLoop phased (One s) p a = pick (mayStand depth inLoop phased s) (passed a) (refused (refusal BLOCK p))
+  item (suc most) depth inLoop phased (Opens o) p a = pick (ltb depth mostOpen) (block most depth inLoop phased o a) (refused (refusal DEPTH p))
+  item (suc most) depth inLoop phased (Closes c) p a = closer c p a
 
-  pub block : ℕ → ℕ → Bool → Opener → Cut → ItemEnd
-  block zero depth inLoop o a = refused (refusal RUN-OUT 0)
-  block (suc most) depth inLoop o a =
-      onFirst o (body most (suc depth) (loopsIn o inLoop) a) (λ b. body most (suc depth) inLoop b)
+  pub block : ℕ → ℕ → Bool → Bool → Opener → Cut → ItemEnd
+  block zero depth inLoop phased o a = refused (refusal RUN-OUT 0)
+  block (suc most) depth inLoop phased o a =
+      onFirst o (body most (suc depth) (loopsIn o inLoop) phased a) (λ b. body most (suc depth) inLoop phased b)
 
 -- a bound that is enough
 unfoldable pub fuel : Cut → ℕ
@@ -71,17 +71,17 @@ fuel (out p) = 3
 fuel (wrong p r) = 3
 fuel (then c p a) = suc (suc (suc (fuel a)))
 
--- where this many blocks are open, a LOOP or REP among them or not: what a body takes of a cut
-unfoldable pub bodyOf : ℕ → Bool → Cut → BodyEnd
-bodyOf depth inLoop a = body (fuel a) depth inLoop a
+-- where this many blocks are open, a LOOP or REP among them or not, and a PHASE has stood or not: what a body takes of a cut
+unfoldable pub bodyOf : ℕ → Bool → Bool → Cut → BodyEnd
+bodyOf depth inLoop phased a = body (fuel a) depth inLoop phased a
 
 -- what an item takes that begins with this class at this position
-unfoldable pub itemOf : ℕ → Bool → Class → ℕ → Cut → ItemEnd
-itemOf depth inLoop c p a = item (fuel a) depth inLoop c p a
+unfoldable pub itemOf : ℕ → Bool → Bool → Class → ℕ → Cut → ItemEnd
+itemOf depth inLoop phased c p a = item (fuel a) depth inLoop phased c p a
 
 -- what a block takes behind its opener
-unfoldable pub blockOf : ℕ → Bool → Opener → Cut → ItemEnd
-blockOf depth inLoop o a = block (fuel a) depth inLoop o a
+unfoldable pub blockOf : ℕ → Bool → Bool → Opener → Cut → ItemEnd
+blockOf depth inLoop phased o a = block (fuel a) depth inLoop phased o a
 
 -- "a stream is a body and END"
 abbrev pub onStream : ℕ → BodyEnd → Verdict
@@ -90,4 +90,4 @@ onStream count (broken r) = Refused r
 
 -- the verdict of the descent, where a yes gives this count
 unfoldable pub descended : ℕ → Cut → Verdict
-descended count a = onStream count (bodyOf 0 false a)
+descended count a = onStream count (bodyOf 0 false false a)

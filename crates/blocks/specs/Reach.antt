@@ -4,30 +4,30 @@ use mathlib.Core.Path.{_≡_}
 use mathlib.Core.List.{List, [], _∷_}
 use Rattle.paper.specs.Numbers.{refusal}
 use Rattle.paper.specs.Blocks.{Cut, out, wrong, then}
-use Rattle.paper.specs.Walk.{Kind, step, Next, go, bad, finish}
+use Rattle.paper.specs.Walk.{WalkState, step, Next, go, bad, finish}
 use Rattle.paper.specs.declared.Class.{Class}
 use Rattle.paper.specs.declared.Reason.the-variants.{Tail as TAIL}
 use Rattle.paper.specs.declared.Refusal.{Refusal}
 use Rattle.paper.specs.declared.Verdict.{Verdict}
 use Rattle.paper.specs.declared.Verdict.the-variants.{Accepted, Refused}
 
--- a walk at a, with the blocks ks open, comes to b with the blocks ls open
-pub data Reaches : Cut → List Kind → Cut → List Kind → Type 0 where
-  here : {a : Cut} {ks : List Kind} → Reaches a ks a ks
-  past : {c : Class} {p : ℕ} {a b : Cut} {ks ls ms : List Kind} →
-      step ks c ≡ go ls → Reaches a ls b ms → Reaches (then c p a) ks b ms
+-- a walk at a, in the state w, comes to b in the state u
+pub data Reaches : Cut → WalkState → Cut → WalkState → Type 0 where
+  here : {a : Cut} {w : WalkState} → Reaches a w a w
+  past : {c : Class} {p : ℕ} {a b : Cut} {w u t : WalkState} →
+      step w c ≡ go u → Reaches a u b t → Reaches (then c p a) w b t
 
 -- nothing may follow the END that finishes a stream
-abbrev pub onwards : Next → List Class → (List Kind → Next) → Next
-onwards (go ks) cs next = next ks
+abbrev pub onwards : Next → List Class → (WalkState → Next) → Next
+onwards (go w) cs next = next w
 onwards (bad reason) cs next = bad reason
 onwards finish [] next = finish
 onwards finish (c ∷ cs) next = bad TAIL
 
--- the open blocks after a row of classes, from the blocks ks on
-unfoldable pub openAfter : List Kind → List Class → Next
-openAfter ks [] = go ks
-openAfter ks (c ∷ cs) = onwards (step ks c) cs (λ next. openAfter next cs)
+-- the state after a row of classes, from the state w on
+unfoldable pub openAfter : WalkState → List Class → Next
+openAfter w [] = go w
+openAfter w (c ∷ cs) = onwards (step w c) cs (λ next. openAfter next cs)
 
 -- a refusal with its position moved
 abbrev pub movedRefusal : (ℕ → ℕ) → Refusal → Refusal

@@ -13,7 +13,7 @@ use Rattle.paper.specs.Versions.{hasPredicates}
 use Rattle.paper.specs.InstructionToken.{hasDestination, mayBePredicated, withPredicate}
 use Rattle.paper.specs.Blocks.{classOf}
 use Rattle.paper.specs.declared.Version.{Version}
-use Rattle.paper.specs.declared.Single.the-variants.{Comment, Plain, Break, Label, Return}
+use Rattle.paper.specs.declared.Single.the-variants.{Comment, Plain, Break, Label, Return, Phase}
 use Rattle.paper.specs.declared.Opener.the-variants.{If, Loop, Rep}
 use Rattle.paper.specs.declared.Closer.the-variants.{Else, EndIf, EndLoop, EndRep, End}
 use Rattle.paper.specs.declared.Class.{Class}
@@ -66,6 +66,7 @@ class-few (One Plain) = lit< tt
 class-few (One Break) = lit< tt
 class-few (One Label) = lit< tt
 class-few (One Return) = lit< tt
+class-few (One Phase) = lit< tt
 class-few (Opens If) = lit< tt
 class-few (Opens Loop) = lit< tt
 class-few (Opens Rep) = lit< tt

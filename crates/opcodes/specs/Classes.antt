@@ -1,6 +1,6 @@
 -- What an opcode is to the blocks, as a number.
 use Prim.Native.Nat.{ℕ}
-use Rattle.paper.specs.declared.Single.the-variants.{Comment, Plain, Break, Label, Return}
+use Rattle.paper.specs.declared.Single.the-variants.{Comment, Plain, Break, Label, Return, Phase}
 use Rattle.paper.specs.declared.Opener.the-variants.{If, Loop, Rep}
 use Rattle.paper.specs.declared.Closer.the-variants.{Else, EndIf, EndLoop, EndRep, End}
 use Rattle.paper.specs.declared.Class.{Class}
@@ -20,3 +20,4 @@ classNumber (Closes EndIf) = 9
 classNumber (Closes EndLoop) = 10
 classNumber (Closes EndRep) = 11
 classNumber (Closes End) = 12
+classNumber (One Phase) = 13

@@ -2,17 +2,26 @@
 use mathlib.Core.Path.{_≡_, refl}
 use mathlib.Core.Bool.{Bool, true, _&&_}
 use mathlib.Core.List.{List, [], _∷_}
-use Prim.Native.Nat.{ℕ}
+use Prim.Native.Nat.{ℕ, suc}
 use lib.Dec.{eqb}
-use Rattle.paper.specs.Numbers.{ToldInstruction, toldInstruction}
+use Rattle.paper.specs.Numbers.{refusal, ToldInstruction, toldInstruction}
 use Rattle.paper.specs.OpcodeTable.{rows}
 use Rattle.paper.specs.Places.{entryOf, typedPlaces}
 use Rattle.paper.specs.OperandTokens.{tokenAt}
 use Rattle.paper.specs.Dcl.{declaration}
 use Rattle.paper.specs.Instruction.{tokenHead, operand, operands, judged}
-use Rattle.paper.specs.Blocks.{classes, classOf}
+use Rattle.paper.specs.Blocks.{Cut, out, then, classes, classOf}
+use Rattle.paper.specs.Walk.{begin, walk}
 use Rattle.paper.specs.declared.Version.{Version}
 use Rattle.paper.specs.declared.Version.the-variants.{V2, V3, P2, P3}
+use Rattle.paper.specs.declared.Single.the-variants.{Plain, Phase}
+use Rattle.paper.specs.declared.Opener.the-variants.{If}
+use Rattle.paper.specs.declared.Closer.the-variants.{EndIf, End}
+use Rattle.paper.specs.declared.Class.{Class}
+use Rattle.paper.specs.declared.Class.the-variants.{One, Opens, Closes}
+use Rattle.paper.specs.declared.Reason.the-variants.{Block as BLOCK}
+use Rattle.paper.specs.declared.Verdict.{Verdict}
+use Rattle.paper.specs.declared.Verdict.the-variants.{Accepted, Refused}
 
 record Vector : Type 0 where
   version : Version
@@ -233,3 +242,30 @@ allTell (row ∷ more) = tells (toldInstruction (judged (row .version) (row .tok
 vectors-hold : allTell vectors ≡ true
 unfolding vectors judged tokenHead operand operands declaration tokenAt typedPlaces entryOf rows classOf classes toldInstruction
 vectors-hold = refl
+
+-- a cut of instructions of one token each, from a position on
+cutOf : List Class → ℕ → Cut
+cutOf [] p = out p
+cutOf (c ∷ cs) p = then c p (cutOf cs (suc p))
+
+abbrev nests : List Class → Verdict
+nests cs = walk 0 (cutOf cs 1) begin
+
+-- one PHASE is accepted and counted
+phase-once : nests (One Phase ∷ One Plain ∷ Closes End ∷ []) ≡ Accepted 2
+unfolding walk cutOf
+phase-once = refl
+
+-- a second one is BLOCK at its place, whatever stands between
+phase-twice : nests (One Phase ∷ One Phase ∷ Closes End ∷ []) ≡ Refused (refusal BLOCK 2)
+unfolding walk cutOf
+phase-twice = refl
+
+phase-later : nests (One Phase ∷ One Plain ∷ Opens If ∷ Closes EndIf ∷ One Phase ∷ Closes End ∷ []) ≡ Refused (refusal BLOCK 5)
+unfolding walk cutOf
+phase-later = refl
+
+-- and so is one in a block
+phase-in-block : nests (Opens If ∷ One Phase ∷ Closes EndIf ∷ Closes End ∷ []) ≡ Refused (refusal BLOCK 2)
+unfolding walk cutOf
+phase-in-block = refl

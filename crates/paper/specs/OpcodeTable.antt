@@ -148,3 +148,6 @@ TEXLDL = 95
 
 abbrev pub BREAKP : ℕ
 BREAKP = 96
+
+abbrev pub PHASE : ℕ
+PHASE = 0xFFFD

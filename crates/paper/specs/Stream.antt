@@ -9,7 +9,7 @@ use Rattle.paper.specs.Versions.{named}
 use Rattle.paper.specs.Numbers.{refusal, ToldVerdict, told}
 use Rattle.paper.specs.Instruction.{judged}
 use Rattle.paper.specs.Blocks.{Cut, out, wrong, then}
-use Rattle.paper.specs.Walk.{walk}
+use Rattle.paper.specs.Walk.{begin, walk}
 use Rattle.paper.specs.declared.Version.{Version}
 use Rattle.paper.specs.declared.Named.{Named}
 use Rattle.paper.specs.declared.Named.the-variants.{Known, Unknown}
@@ -37,7 +37,7 @@ cutFrom v stream p = cutting (length (drop p stream)) v (drop p stream) p
 
 -- the walk of a stream, from behind its version on
 unfoldable pub walked : Version → List ℕ → Verdict
-walked v stream = walk 0 (cutFrom v stream 1) []
+walked v stream = walk 0 (cutFrom v stream 1) begin
 
 -- "fewer than 2 or more than 16,384 tokens"
 abbrev pub mostTokens : ℕ

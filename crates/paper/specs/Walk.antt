@@ -1,19 +1,19 @@
--- Document 01, "Blocks": the walk with open blocks.
+-- Document 01, "Blocks": the walk with open blocks; document 02, Q-4: PHASE "belongs to the walk's state".
 use Prim.Native.Nat.{ℕ, suc}
-use mathlib.Core.Bool.{Bool, true, false}
+use mathlib.Core.Bool.{Bool, true, false, _||_}
 use mathlib.Core.List.{List, [], _∷_}
 use lib.Dec.{ltb}
 use lib.ListN.{length}
 use Rattle.paper.specs.Notation.{pick}
 use Rattle.paper.specs.Numbers.{refusal}
-use Rattle.paper.specs.Blocks.{Cut, out, wrong, then, mayStand, loopsIn, mostOpen}
+use Rattle.paper.specs.Blocks.{Cut, out, wrong, then, mayStand, isPhase, loopsIn, mostOpen}
 use Rattle.paper.specs.declared.Opener.{Opener}
 use Rattle.paper.specs.declared.Opener.the-variants.{If, Loop, Rep}
 use Rattle.paper.specs.declared.Closer.{Closer}
 use Rattle.paper.specs.declared.Closer.the-variants.{Else, EndIf, EndLoop, EndRep, End}
 use Rattle.paper.specs.declared.Class.{Class}
 use Rattle.paper.specs.declared.Class.the-variants.{One, Opens, Closes}
-use Rattle.paper.specs.declared.Single.the-variants.{Comment, Plain, Break, Label, Return}
+use Rattle.paper.specs.declared.Single.the-variants.{Comment, Plain, Break, Label, Return, Phase}
 use Rattle.paper.specs.declared.Reason.{Reason}
 use Rattle.paper.specs.declared.Reason.the-variants.{RunOut as RUN-OUT, Block as BLOCK, Depth as DEPTH, Tail as TAIL}
 use Rattle.paper.specs.declared.Verdict.{Verdict}
@@ -89,20 +89,37 @@ abbrev pub elses : Closer → Kind → Bool
 elses c (opened o) = elsesOpener c o
 elses c pastElse = false
 
--- what an instruction does to the open blocks: the walk goes on, is refused, or is at its end
+-- what a walk carries: the open blocks, innermost first, and whether a PHASE has stood
+pub record WalkState : Type 0 where
+  pub kinds : List Kind
+  pub phased : Bool
+
+-- a stream begins with no block open and no PHASE before it
+abbrev pub begin : WalkState
+begin = record { kinds = []; phased = false }
+
+-- behind an opener or a closer, with these blocks open
+abbrev pub nested : List Kind → WalkState → WalkState
+nested ks w = record { kinds = ks; phased = w .phased }
+
+-- behind one instruction, which is a PHASE or not
+abbrev pub marked : Bool → WalkState → WalkState
+marked phase w = record { kinds = w .kinds; phased = w .phased || phase }
+
+-- what an instruction does to the walk: it goes on, is refused, or is at its end
 pub data Next : Type 0 where
-  go : List Kind → Next
+  go : WalkState → Next
   bad : Reason → Next
   finish : Next
 
-abbrev pub closeAt : Closer → List Kind → Next
-closeAt c [] = pick (isEnd c) finish (bad BLOCK)
-closeAt c (k ∷ ks) = pick (elses c k) (go (pastElse ∷ ks)) (pick (closes c k) (go ks) (bad BLOCK))
+abbrev pub closeAt : Closer → List Kind → WalkState → Next
+closeAt c [] w = pick (isEnd c) finish (bad BLOCK)
+closeAt c (k ∷ ks) w = pick (elses c k) (go (nested (pastElse ∷ ks) w)) (pick (closes c k) (go (nested ks w)) (bad BLOCK))
 
-abbrev pub step : List Kind → Class → Next
-step ks (One s) = pick (mayStand (length ks) (inLoop ks) s) (go ks) (bad BLOCK)
-step ks (Opens o) = pick (ltb (length ks) mostOpen) (go (opened o ∷ ks)) (bad DEPTH)
-step ks (Closes c) = closeAt c ks
+abbrev pub step : WalkState → Class → Next
+step w (One s) = pick (mayStand (length (w .kinds)) (inLoop (w .kinds)) (w .phased) s) (go (marked (isPhase s) w)) (bad BLOCK)
+step w (Opens o) = pick (ltb (length (w .kinds)) mostOpen) (go (nested (opened o ∷ w .kinds) w)) (bad DEPTH)
+step w (Closes c) = closeAt c (w .kinds) w
 
 -- "the number of instructions, comments and END not counted"
 abbrev pub counts : Class → ℕ → ℕ
@@ -111,6 +128,7 @@ counts (One Plain) n = suc n
 counts (One Break) n = suc n
 counts (One Label) n = suc n
 counts (One Return) n = suc n
+counts (One Phase) n = suc n
 counts (Opens o) n = suc n
 counts (Closes Else) n = suc n
 counts (Closes EndIf) n = suc n
@@ -124,13 +142,13 @@ atEnd count (out p) = Accepted count
 atEnd count (wrong p r) = Refused (refusal TAIL p)
 atEnd count (then c p rest) = Refused (refusal TAIL p)
 
-abbrev pub onNext : Next → ℕ → ℕ → Cut → (List Kind → Verdict) → Verdict
-onNext (go ks) count p rest walk = walk ks
+abbrev pub onNext : Next → ℕ → ℕ → Cut → (WalkState → Verdict) → Verdict
+onNext (go w) count p rest walk = walk w
 onNext (bad reason) count p rest walk = Refused (refusal reason p)
 onNext finish count p rest walk = atEnd count rest
 
--- the verdict of the walk behind so many instructions, with these blocks open
-unfoldable pub walk : ℕ → Cut → List Kind → Verdict
-walk count (out p) ks = Refused (refusal RUN-OUT p)
-walk count (wrong p r) ks = Refused r
-walk count (then c p rest) ks = onNext (step ks c) count p rest (λ next. walk (counts c count) rest next)
+-- the verdict of the walk behind so many instructions, in this state
+unfoldable pub walk : ℕ → Cut → WalkState → Verdict
+walk count (out p) w = Refused (refusal RUN-OUT p)
+walk count (wrong p r) w = Refused r
+walk count (then c p rest) w = onNext (step w c) count p rest (λ next. walk (counts c count) rest next)

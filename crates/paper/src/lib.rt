@@ -87,6 +87,7 @@ pub enum Single {
     Break,
     Label,
     Return,
+    Phase,
 }
 
 pub enum Opener {

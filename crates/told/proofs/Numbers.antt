@@ -7,7 +7,7 @@ use native.Mathlib.Omega.{arith}
 use borrow.Author.Tests.{eqb-true, eqb-false}
 use Rattle.paper.specs.Numbers.{numberOf, reasonBy}
 use Rattle.paper.proofs.OneToOne.{reason-back, number-few}
-use Rattle.paper.specs.declared.Single.the-variants.{Comment, Plain, Break, Label, Return}
+use Rattle.paper.specs.declared.Single.the-variants.{Comment, Plain, Break, Label, Return, Phase}
 use Rattle.paper.specs.declared.Opener.the-variants.{If, Loop, Rep}
 use Rattle.paper.specs.declared.Closer.the-variants.{Else, EndIf, EndLoop, EndRep, End}
 use Rattle.paper.specs.declared.Refusal.{Refusal}
@@ -27,6 +27,7 @@ class-back (One Plain) = refl
 class-back (One Break) = refl
 class-back (One Label) = refl
 class-back (One Return) = refl
+class-back (One Phase) = refl
 class-back (Opens If) = refl
 class-back (Opens Loop) = refl
 class-back (Opens Rep) = refl

@@ -6,7 +6,7 @@ use Rattle.paper.specs.Notation.{pick}
 use Rattle.paper.specs.Numbers.{numberOf, reasonBy, refusal}
 use Rattle.opcodes.specs.Classes.{classNumber}
 use Rattle.paper.specs.declared.Refusal.{Refusal}
-use Rattle.paper.specs.declared.Single.the-variants.{Comment, Plain, Break, Label, Return}
+use Rattle.paper.specs.declared.Single.the-variants.{Comment, Plain, Break, Label, Return, Phase}
 use Rattle.paper.specs.declared.Opener.the-variants.{If, Loop, Rep}
 use Rattle.paper.specs.declared.Closer.the-variants.{Else, EndIf, EndLoop, EndRep, End}
 use Rattle.paper.specs.declared.Class.{Class}
@@ -76,7 +76,8 @@ classBy n =
     (pick (eqb n 8) (Closes Else)
     (pick (eqb n 9) (Closes EndIf)
     (pick (eqb n 10) (Closes EndLoop)
-    (pick (eqb n 11) (Closes EndRep) (Closes End))))))))))))
+    (pick (eqb n 11) (Closes EndRep)
+    (pick (eqb n 13) (One Phase) (Closes End)))))))))))))
 
 unfoldable pub judgedFrom : ℕ → Judged
 judgedFrom n =

@@ -105,6 +105,7 @@ fn class_by(number: u64) -> Class
         9 => Class::Closes(Closer::EndIf),
         10 => Class::Closes(Closer::EndLoop),
         11 => Class::Closes(Closer::EndRep),
+        13 => Class::One(Single::Phase),
         _ => Class::Closes(Closer::End),
     }
 }

@@ -3,9 +3,10 @@ use Rattle.told.proofs.class_by.Statement.{statement}
 use Rattle.told.proofs.class_by.Tie as tie
 
 -- none of the numbers that have an arm
-other : tie.Need-returns-13
+other : tie.Need-returns-14
 other c =
     simp (
+      ne-eqb _ _ (c .match .rest .0 .0 .0 .0 .0 .0 .0 .0 .0 .0 .0 .0 .1),
       ne-eqb _ _ (c .match .rest .0 .0 .0 .0 .0 .0 .0 .0 .0 .0 .0 .1),
       ne-eqb _ _ (c .match .rest .0 .0 .0 .0 .0 .0 .0 .0 .0 .0 .1),
       ne-eqb _ _ (c .match .rest .0 .0 .0 .0 .0 .0 .0 .0 .0 .1),
@@ -36,4 +37,5 @@ class-by-spec =
     (λ c. rw (c .match .keys10))
     (λ c. rw (c .match .keys11))
     (λ c. rw (c .match .keys12))
+    (λ c. rw (c .match .keys13))
     other)
