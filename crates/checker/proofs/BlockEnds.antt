@@ -119,7 +119,7 @@ module _ (v : Version) (s : List ℕ) (o : Opener) (at : ℕ) where
     last-within (Broken r) h = tt
 
 -- a body that stops
-module _ {v : Version} {s : List ℕ} {depth : ℕ} {inLoop : Bool} {at m : ℕ} {e : BodyEnd} (h : BodyIs v s depth inLoop at m e) where
+module _ {v : Version} {s : List ℕ} {depth : ℕ} {inLoop phased : Bool} {at m : ℕ} {e : BodyEnd} (h : BodyIs v s depth inLoop phased at m e) where
   pub body-within : {c : Closer} {p next n : ℕ} → e ≡ Stopped c p next n → Stops v s at m c p next n
   body-within f = subst (BodyWithin v s at m) f (h .within)
 
@@ -127,37 +127,37 @@ low-within : (v : Version) (s : List ℕ) (at m : ℕ) (e : BodyEnd) → length 
 low-within v s at m (Stopped c p next n) fits h = omega (arith, h .few, h .closer, h .inside)
 low-within v s at m (Broken r) fits h = tt
 
-pub low : {v : Version} {s : List ℕ} {depth : ℕ} {inLoop : Bool} {at m : ℕ} {e : BodyEnd} →
-    length s < 2 ^ 64 → BodyIs v s depth inLoop at m e → {f : BodyEnd} → e ≡ f → Low f
-low {v} {s} {depth} {inLoop} {at} {m} {e} fits h same = subst Low same (low-within v s at m e fits (h .within))
+pub low : {v : Version} {s : List ℕ} {depth : ℕ} {inLoop phased : Bool} {at m : ℕ} {e : BodyEnd} →
+    length s < 2 ^ 64 → BodyIs v s depth inLoop phased at m e → {f : BodyEnd} → e ≡ f → Low f
+low {v} {s} {depth} {inLoop} {phased} {at} {m} {e} fits h same = subst Low same (low-within v s at m e fits (h .within))
 
-module _ (depth : ℕ) (inLoop : Bool) (o : Opener) {v : Version} {s : List ℕ} {at m own : ℕ} (owned : own ≡ closerNumber (closerOf o))
-    {loop : Bool} (looped : loop ≡ loopsIn o inLoop) {first : BodyEnd} (h : BodyIs v s (depth + 1) loop at m first) where
-  opened-first : (e : BodyEnd) → first ≡ e → onFirst o (bodyEnd v s e) (λ b. bodyOf (suc depth) inLoop b) ≡ blockOf depth inLoop o (cutFrom v s at)
+module _ (depth : ℕ) (inLoop phased : Bool) (o : Opener) {v : Version} {s : List ℕ} {at m own : ℕ} (owned : own ≡ closerNumber (closerOf o))
+    {loop : Bool} (looped : loop ≡ loopsIn o inLoop) {first : BodyEnd} (h : BodyIs v s (depth + 1) loop phased at m first) where
+  opened-first : (e : BodyEnd) → first ≡ e → onFirst o (bodyEnd v s e) (λ b. bodyOf (suc depth) inLoop phased b) ≡ blockOf depth inLoop phased o (cutFrom v s at)
   opened-first e same =
-      let is : bodyEnd v s e ≡ bodyOf (suc depth) (loopsIn o inLoop) (cutFrom v s at) = rw (add-one depth, looped, same) at (h .is) in
-      sym (block-opened depth inLoop o (cutFrom v s at) ∙ ap (λ x. onFirst o x (λ b. bodyOf (suc depth) inLoop b)) (sym is))
+      let is : bodyEnd v s e ≡ bodyOf (suc depth) (loopsIn o inLoop) phased (cutFrom v s at) = rw (add-one depth, looped, same) at (h .is) in
+      sym (block-opened depth inLoop phased o (cutFrom v s at) ∙ ap (λ x. onFirst o x (λ b. bodyOf (suc depth) inLoop phased b)) (sym is))
 
-  pub block-broken : {f : Refusal} → first ≡ Broken f → BlockIs v s depth inLoop at m o (Refused f)
+  pub block-broken : {f : Refusal} → first ≡ Broken f → BlockIs v s depth inLoop phased at m o (Refused f)
   block-broken {f} e = record { is = opened-first (Broken f) e; within = tt }
 
   module _ {c : Closer} {p next n : ℕ} (e : first ≡ Stopped c p next n) {number : ℕ} (numbered : number ≡ closerNumber c) where
     at-closer : (test : Bool) → eqb own 1 && eqb number 0 ≡ test →
-        pick test (onLast pastElse (bodyOf (suc depth) inLoop (cutFrom v s next))) (onLast (opened o) (stopped c p (cutFrom v s next))) ≡
-        blockOf depth inLoop o (cutFrom v s at)
+        pick test (onLast pastElse (bodyOf (suc depth) inLoop phased (cutFrom v s next))) (onLast (opened o) (stopped c p (cutFrom v s next))) ≡
+        blockOf depth inLoop phased o (cutFrom v s at)
     at-closer test t =
         let told : elses c (opened o) ≡ test = sym (else-test o c) ∙ (rw (owned, numbered) at t) in
         rw (← told) (opened-first (Stopped c p next n) e)
 
-    pub block-closed : eqb own 1 && eqb number 0 ≡ false → {r : ItemEnd} → r ≡ lastEnd own (Stopped c p next n) → BlockIs v s depth inLoop at m o r
+    pub block-closed : eqb own 1 && eqb number 0 ≡ false → {r : ItemEnd} → r ≡ lastEnd own (Stopped c p next n) → BlockIs v s depth inLoop phased at m o r
     block-closed t f =
         rw (f, owned) (record {
           is = last-end v s o at (Stopped c p next n) ∙ at-closer false t;
           within = last-within v s o at m at m (omega arith) refl (Stopped c p next n) (body-within h e);
         })
 
-    pub block-else : eqb own 1 && eqb number 0 ≡ true → {second : BodyEnd} → BodyIs v s (depth + 1) inLoop next (n + 1) second →
-        {r : ItemEnd} → r ≡ lastEnd own second → BlockIs v s depth inLoop at m o r
+    pub block-else : eqb own 1 && eqb number 0 ≡ true → {second : BodyEnd} → BodyIs v s (depth + 1) inLoop phased next (n + 1) second →
+        {r : ItemEnd} → r ≡ lastEnd own second → BlockIs v s depth inLoop phased at m o r
     block-else t {second} k f =
         let stops : Stops v s at m c p next n = body-within h e in
         let only = else-only o c (sym (else-test o c) ∙ (rw (owned, numbered) at t)) in

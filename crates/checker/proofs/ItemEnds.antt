@@ -16,7 +16,7 @@ use Rattle.paper.specs.declared.Version.{Version}
 use Rattle.paper.specs.declared.Class.{Class}
 use Rattle.paper.specs.declared.Class.the-variants.{One, Opens, Closes}
 use Rattle.paper.specs.declared.Single.{Single}
-use Rattle.paper.specs.declared.Single.the-variants.{Comment, Plain, Break, Label, Return}
+use Rattle.paper.specs.declared.Single.the-variants.{Comment, Plain, Break, Label, Return, Phase}
 use Rattle.paper.specs.declared.Opener.{Opener}
 use Rattle.paper.specs.declared.Closer.{Closer}
 use Rattle.paper.specs.declared.Refusal.{Refusal}
@@ -50,6 +50,7 @@ tally-counts Plain m n = omega arith
 tally-counts Break m n = omega arith
 tally-counts Label m n = omega arith
 tally-counts Return m n = omega arith
+tally-counts Phase m n = omega arith
 
 tally-one : (x : Single) → tallyOf x ≤ 1
 tally-one Comment = omega arith
@@ -57,6 +58,7 @@ tally-one Plain = omega arith
 tally-one Break = omega arith
 tally-one Label = omega arith
 tally-one Return = omega arith
+tally-one Phase = omega arith
 
 pub tally-small : (x : Single) {t : ℕ} → t ≡ tallyOf x → t ≤ 1
 tally-small x e = omega (arith, tally-one x)
@@ -92,18 +94,18 @@ module _ (v : Version) {s : List ℕ} {depth at m told : ℕ} (begun : StartsAt 
         let next : at + suc size ≡ at + 1 + size = omega arith in
         cut-at v s at (omega (arith, good-inside)) ∙ rw (← judged-at, f, next) refl
 
-    begins : (inLoop : Bool) → itemAt depth inLoop (cutFrom v s at) ≡ itemOf depth inLoop class at (cutFrom v s (at + 1 + size))
-    begins inLoop = ap (itemAt depth inLoop) cut
+    begins : (inLoop phased : Bool) → itemAt depth inLoop phased (cutFrom v s at) ≡ itemOf depth inLoop phased class at (cutFrom v s (at + 1 + size))
+    begins inLoop phased = ap (itemAt depth inLoop phased) cut
 
     counted : countOf (cutFrom v s at) ≡ counts class (countOf (cutFrom v s (at + 1 + size)))
     unfolding countOf
     counted = ap countOf cut
 
-    pub item-passed : {inLoop b : Bool} {x : Single} {t : ℕ} → class ≡ One x → b ≡ mayStand depth inLoop x → b ≡ true → t ≡ tallyOf x →
-        ItemIs v s depth inLoop at m (Passed (at + 1 + size) (m + t))
-    item-passed {inLoop} {b} {x} {t} g stood held k =
+    pub item-passed : {inLoop phased b : Bool} {x : Single} {t : ℕ} → class ≡ One x → b ≡ mayStand depth inLoop phased x → b ≡ true → t ≡ tallyOf x →
+        ItemIs v s depth inLoop phased at m (Passed (at + 1 + size) (m + t))
+    item-passed {inLoop} {phased} {b} {x} {t} g stood held k =
         record {
-          is = sym (begins inLoop ∙ rw (g, item-one depth inLoop x at (cutFrom v s (at + 1 + size)), ← stood, held) refl);
+          is = sym (begins inLoop phased ∙ rw (g, item-one depth inLoop phased x at (cutFrom v s (at + 1 + size)), ← stood, held) refl);
           within = record {
             after = omega arith;
             inside = good-inside;
@@ -112,11 +114,11 @@ module _ (v : Version) {s : List ℕ} {depth at m told : ℕ} (begun : StartsAt 
           };
         }
 
-    pub item-barred : {inLoop b : Bool} {x : Single} {r : ItemEnd} → class ≡ One x → b ≡ mayStand depth inLoop x → b ≡ false →
-        r ≡ Refused (refusal BLOCK at) → ItemIs v s depth inLoop at m r
-    item-barred {inLoop} {b} {x} g stood failed k =
+    pub item-barred : {inLoop phased b : Bool} {x : Single} {r : ItemEnd} → class ≡ One x → b ≡ mayStand depth inLoop phased x → b ≡ false →
+        r ≡ Refused (refusal BLOCK at) → ItemIs v s depth inLoop phased at m r
+    item-barred {inLoop} {phased} {b} {x} g stood failed k =
         rw k (record {
-          is = sym (begins inLoop ∙ rw (g, item-one depth inLoop x at (cutFrom v s (at + 1 + size)), ← stood, failed) refl);
+          is = sym (begins inLoop phased ∙ rw (g, item-one depth inLoop phased x at (cutFrom v s (at + 1 + size)), ← stood, failed) refl);
           within = tt;
         })
 
@@ -130,28 +132,28 @@ module _ (v : Version) {s : List ℕ} {depth at m told : ℕ} (begun : StartsAt 
             counted = rw (counted, g) (omega arith);
           }
 
-      block-begins : (inLoop : Bool) → ltb depth mostOpen ≡ true → blockOf depth inLoop o (cutFrom v s (at + 1 + size)) ≡ itemAt depth inLoop (cutFrom v s at)
-      block-begins inLoop h = sym (begins inLoop ∙ rw (g, item-opens depth inLoop o at (cutFrom v s (at + 1 + size)), h) refl)
+      block-begins : (inLoop phased : Bool) → ltb depth mostOpen ≡ true → blockOf depth inLoop phased o (cutFrom v s (at + 1 + size)) ≡ itemAt depth inLoop phased (cutFrom v s at)
+      block-begins inLoop phased h = sym (begins inLoop phased ∙ rw (g, item-opens depth inLoop phased o at (cutFrom v s (at + 1 + size)), h) refl)
 
-      opened : (inLoop : Bool) → ltb depth mostOpen ≡ true → (r : ItemEnd) → BlockIs v s depth inLoop (at + 1 + size) (m + 1) o r → ItemIs v s depth inLoop at m r
-      opened inLoop h (Passed next n) k = record { is = k .is ∙ block-begins inLoop h; within = onward opens (k .within) }
-      opened inLoop h (Closed c next) k = absurd (k .within)
-      opened inLoop h (Refused r) k = record { is = k .is ∙ block-begins inLoop h; within = tt }
+      opened : (inLoop phased : Bool) → ltb depth mostOpen ≡ true → (r : ItemEnd) → BlockIs v s depth inLoop phased (at + 1 + size) (m + 1) o r → ItemIs v s depth inLoop phased at m r
+      opened inLoop phased h (Passed next n) k = record { is = k .is ∙ block-begins inLoop phased h; within = onward opens (k .within) }
+      opened inLoop phased h (Closed c next) k = absurd (k .within)
+      opened inLoop phased h (Refused r) k = record { is = k .is ∙ block-begins inLoop phased h; within = tt }
 
-      pub item-opened : {inLoop : Bool} → depth < mostOpen → {r : ItemEnd} → BlockIs v s depth inLoop (at + 1 + size) (m + 1) o r → ItemIs v s depth inLoop at m r
-      item-opened {inLoop} h {r} k = opened inLoop (lt-ltb depth mostOpen h) r k
+      pub item-opened : {inLoop phased : Bool} → depth < mostOpen → {r : ItemEnd} → BlockIs v s depth inLoop phased (at + 1 + size) (m + 1) o r → ItemIs v s depth inLoop phased at m r
+      item-opened {inLoop} {phased} h {r} k = opened inLoop phased (lt-ltb depth mostOpen h) r k
 
-      pub item-deep : {inLoop : Bool} → mostOpen ≤ depth → {r : ItemEnd} → r ≡ Refused (refusal DEPTH at) → ItemIs v s depth inLoop at m r
-      item-deep {inLoop} h k =
+      pub item-deep : {inLoop phased : Bool} → mostOpen ≤ depth → {r : ItemEnd} → r ≡ Refused (refusal DEPTH at) → ItemIs v s depth inLoop phased at m r
+      item-deep {inLoop} {phased} h k =
           rw k (record {
-            is = sym (begins inLoop ∙ rw (g, item-opens depth inLoop o at (cutFrom v s (at + 1 + size)), le-ltb depth mostOpen h) refl);
+            is = sym (begins inLoop phased ∙ rw (g, item-opens depth inLoop phased o at (cutFrom v s (at + 1 + size)), le-ltb depth mostOpen h) refl);
             within = tt;
           })
 
-    pub item-closer : {inLoop : Bool} {c : Closer} → class ≡ Closes c → ItemIs v s depth inLoop at m (Closed c (at + 1 + size))
-    item-closer {inLoop} {c} g =
+    pub item-closer : {inLoop phased : Bool} {c : Closer} → class ≡ Closes c → ItemIs v s depth inLoop phased at m (Closed c (at + 1 + size))
+    item-closer {inLoop} {phased} {c} g =
         record {
-          is = sym (begins inLoop ∙ rw (g, item-closes depth inLoop c at (cutFrom v s (at + 1 + size))) refl);
+          is = sym (begins inLoop phased ∙ rw (g, item-closes depth inLoop phased c at (cutFrom v s (at + 1 + size))) refl);
           within = record {
             after = omega arith;
             closer = omega arith;
@@ -168,14 +170,14 @@ module _ (v : Version) {s : List ℕ} {depth at m told : ℕ} (begun : StartsAt 
         let fits : r .position ≤ length (drop at s) - 1 = subst (Within (Near (length (drop at s))) (length (drop at s))) (sym judged-at ∙ f) (judged-near v (drop at s)) in
         omega (arith, begun .0 .starts, length-drop at s)
 
-    wrong-cut : (inLoop test : Bool) → ltb at (length s) ≡ test →
-        itemAt depth inLoop (cutFrom v s at) ≡ refused (refusal (r .reason) (at + r .position))
+    wrong-cut : (inLoop phased test : Bool) → ltb at (length s) ≡ test →
+        itemAt depth inLoop phased (cutFrom v s at) ≡ refused (refusal (r .reason) (at + r .position))
     unfolding judged
-    wrong-cut inLoop true h = ap (itemAt depth inLoop) (cut-at v s at (ltb-true at (length s) h)) ∙ rw (← judged-at, f) refl
-    wrong-cut inLoop false h =
+    wrong-cut inLoop phased true h = ap (itemAt depth inLoop phased) (cut-at v s at (ltb-true at (length s) h)) ∙ rw (← judged-at, f) refl
+    wrong-cut inLoop phased false h =
         let none : drop at s ≡ [] = drop-of-length-le s (ltb-false at (length s) h) in
-        ap (itemAt depth inLoop) (cut-none v s at (ltb-false at (length s) h))
+        ap (itemAt depth inLoop phased) (cut-none v s at (ltb-false at (length s) h))
         ∙ out-is at r (ap (judged v) (sym none) ∙ sym judged-at ∙ f)
 
-    pub item-wrong : {inLoop : Bool} {k : ItemEnd} → k ≡ Refused (refusal (r .reason) (at + r .position)) → ItemIs v s depth inLoop at m k
-    item-wrong {inLoop} h = rw h (record { is = sym (wrong-cut inLoop (ltb at (length s)) refl); within = tt })
+    pub item-wrong : {inLoop phased : Bool} {k : ItemEnd} → k ≡ Refused (refusal (r .reason) (at + r .position)) → ItemIs v s depth inLoop phased at m k
+    item-wrong {inLoop} {phased} h = rw h (record { is = sym (wrong-cut inLoop phased (ltb at (length s)) refl); within = tt })

@@ -60,11 +60,11 @@ module _ (v : Version) (s : List ℕ) where
   stream-end EndRep p next n h = refl
   stream-end End p next n h = at-end p next n h (ltb next (length s)) refl
 
-  whole : onStream (countOf (cutFrom v s 1)) (bodyOf 0 false (cutFrom v s 1)) ≡ walked v s
+  whole : onStream (countOf (cutFrom v s 1)) (bodyOf 0 false false (cutFrom v s 1)) ≡ walked v s
   unfolding descended
   whole = descent-is-walk (countOf (cutFrom v s 1)) (cutFrom v s 1) ∙ sym (walked-nesting v s)
 
-module _ {v : Version} {s : List ℕ} {r : BodyEnd} (h : BodyIs v s 0 false 1 0 r) where
+module _ {v : Version} {s : List ℕ} {r : BodyEnd} (h : BodyIs v s 0 false false 1 0 r) where
   pub stream-stopped : {c : Closer} {p next n : ℕ} → r ≡ Stopped c p next n → ending (length s) c p next n ≡ walked v s
   stream-stopped {c} {p} {next} {n} e =
       stream-end v s c p next n (subst (BodyWithin v s 1 0) e (h .within))

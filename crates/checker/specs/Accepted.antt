@@ -20,5 +20,5 @@ pub record Grammatical (stream : List ℕ) (n : ℕ) : Type 0 where
   pub names : named (getD stream 0 0) ≡ Known version
   pub endsAt : ℕ
   pub upTo : ℕ
-  pub body : Body 0 false (cutFrom version stream 1) (then (Closes End) endsAt (out upTo))
+  pub body : Body 0 false false (cutFrom version stream 1) (then (Closes End) endsAt (out upTo))
   pub counted : n ≡ countOf (cutFrom version stream 1)

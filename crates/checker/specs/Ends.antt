@@ -13,7 +13,7 @@ use Rattle.paper.specs.Stream.{cutFrom}
 use Rattle.paper.specs.declared.Version.{Version}
 use Rattle.paper.specs.declared.Class.the-variants.{Closes}
 use Rattle.paper.specs.declared.Single.{Single}
-use Rattle.paper.specs.declared.Single.the-variants.{Comment, Plain, Break, Label, Return}
+use Rattle.paper.specs.declared.Single.the-variants.{Comment, Plain, Break, Label, Return, Phase}
 use Rattle.paper.specs.declared.Opener.{Opener}
 use Rattle.paper.specs.declared.Closer.{Closer}
 use Rattle.paper.specs.declared.Closer.the-variants.{End}
@@ -40,10 +40,10 @@ itemEnd v s at (Closed c next) = closer c at (cutFrom v s next)
 itemEnd v s at (Refused r) = refused r
 
 -- the item at the front of a cut: no token is left, or the instruction is refused by itself, or it begins an item
-abbrev pub itemAt : ℕ → Bool → Cut → Descent.ItemEnd
-itemAt depth inLoop (out p) = refused (refusal RUN-OUT p)
-itemAt depth inLoop (wrong p r) = refused r
-itemAt depth inLoop (then c p a) = itemOf depth inLoop c p a
+abbrev pub itemAt : ℕ → Bool → Bool → Cut → Descent.ItemEnd
+itemAt depth inLoop phased (out p) = refused (refusal RUN-OUT p)
+itemAt depth inLoop phased (wrong p r) = refused r
+itemAt depth inLoop phased (then c p a) = itemOf depth inLoop phased c p a
 
 -- where a body or an item begins: how many blocks are open, the position, and the count, which the position bounds
 pub record StartsAt (s : List ℕ) (depth at countOf : ℕ) : Type 0 where
@@ -82,16 +82,16 @@ BlockWithin v s at m (Closed c next) = ⊥
 BlockWithin v s at m (Refused r) = Unit
 
 -- a body, an item, and a block behind its opener, from `at` on with m counted: each is the grammar's, and keeps within the stream
-pub record BodyIs (v : Version) (s : List ℕ) (depth : ℕ) (inLoop : Bool) (at m : ℕ) (r : BodyEnd) : Type 0 where
-  pub is : bodyEnd v s r ≡ bodyOf depth inLoop (cutFrom v s at)
+pub record BodyIs (v : Version) (s : List ℕ) (depth : ℕ) (inLoop phased : Bool) (at m : ℕ) (r : BodyEnd) : Type 0 where
+  pub is : bodyEnd v s r ≡ bodyOf depth inLoop phased (cutFrom v s at)
   pub within : BodyWithin v s at m r
 
-pub record ItemIs (v : Version) (s : List ℕ) (depth : ℕ) (inLoop : Bool) (at m : ℕ) (r : ItemEnd) : Type 0 where
-  pub is : itemEnd v s at r ≡ itemAt depth inLoop (cutFrom v s at)
+pub record ItemIs (v : Version) (s : List ℕ) (depth : ℕ) (inLoop phased : Bool) (at m : ℕ) (r : ItemEnd) : Type 0 where
+  pub is : itemEnd v s at r ≡ itemAt depth inLoop phased (cutFrom v s at)
   pub within : ItemWithin v s at m r
 
-pub record BlockIs (v : Version) (s : List ℕ) (depth : ℕ) (inLoop : Bool) (at m : ℕ) (o : Opener) (r : ItemEnd) : Type 0 where
-  pub is : itemEnd v s at r ≡ blockOf depth inLoop o (cutFrom v s at)
+pub record BlockIs (v : Version) (s : List ℕ) (depth : ℕ) (inLoop phased : Bool) (at m : ℕ) (o : Opener) (r : ItemEnd) : Type 0 where
+  pub is : itemEnd v s at r ≡ blockOf depth inLoop phased o (cutFrom v s at)
   pub within : BlockWithin v s at m r
 
 -- the count leaves room for one more
@@ -106,6 +106,7 @@ tallyOf Plain = 1
 tallyOf Break = 1
 tallyOf Label = 1
 tallyOf Return = 1
+tallyOf Phase = 1
 
 -- the end of a block whose last body must end at the closer of this number
 abbrev pub lastEnd : ℕ → BodyEnd → ItemEnd

@@ -59,8 +59,8 @@ fn refused(reason: Reason, position: usize) -> Verdict
     Verdict::Refused(Refusal { reason, position })
 }
 
-fn may_stand(single: Single, depth: usize, in_loop: bool) -> bool
-    ensures { λ r. ⌜ r ≡ mayStand depth in_loop single ⌝ }
+fn may_stand(single: Single, depth: usize, in_loop: bool, phased: bool) -> bool
+    ensures { λ r. ⌜ r ≡ mayStand depth in_loop phased single ⌝ }
 {
     match single {
         Single::Comment => true,
@@ -68,6 +68,7 @@ fn may_stand(single: Single, depth: usize, in_loop: bool) -> bool
         Single::Break => in_loop,
         Single::Label => depth == 0,
         Single::Return => depth == 0,
+        Single::Phase => (depth == 0) & !phased,
     }
 }
 
@@ -81,6 +82,7 @@ fn tally(single: Single) -> usize
         Single::Break => 1,
         Single::Label => 1,
         Single::Return => 1,
+        Single::Phase => 1,
     }
 }
 
@@ -134,6 +136,7 @@ fn close(end: BodyEnd, own: u32) -> ItemEnd
 }
 
 // A row of items, up to the closer behind it. A plain instruction may stand anywhere, so that a stretch of them is passed in one call.
+// Whether a PHASE has stood is known before the row and marked as it is passed; none stands in a block, so that no answer tells of it.
 fn body(
     version: Version,
     tokens: &[u32],
@@ -141,21 +144,33 @@ fn body(
     count: usize,
     depth: usize,
     in_loop: bool,
+    phased: bool,
 ) -> BodyEnd
     requires { ⌜ StartsAt (now tokens) depth at count ⌝ }
-    ensures { λ r. ⌜ BodyIs version (now (tokens .entry)) depth in_loop at count r ⌝ }
+    ensures { λ r. ⌜ BodyIs version (now (tokens .entry)) depth in_loop phased at count r ⌝ }
 {
     let mut place = at;
     let mut counted = count;
+    let mut marked = phased;
     loop {
         let stretch = stretches::judge_stretch(version, tokens, place, tokens.len(), 0);
         let here = stretch.at;
         let more = counted + stretch.count;
-        let end = item(version, tokens, here, more, depth, in_loop, stretch.told);
+        let end = item(
+            version,
+            tokens,
+            here,
+            more,
+            depth,
+            in_loop,
+            marked,
+            stretch.told,
+        );
         match end {
             ItemEnd::Passed(next, further) => {
                 place = next;
                 counted = further;
+                marked = marked | told::is_phase(stretch.told);
             }
             ItemEnd::Closer(closer, next) => {
                 return BodyEnd::Stopped(closer, here, next, more);
@@ -175,10 +190,11 @@ fn item(
     count: usize,
     depth: usize,
     in_loop: bool,
+    phased: bool,
     told: u64,
 ) -> ItemEnd
     requires { ⌜ StartsAt (now tokens) depth at count × (told ≡ toldAt version (now tokens) 0 at) ⌝ }
-    ensures { λ r. ⌜ ItemIs version (now (tokens .entry)) depth in_loop at count r ⌝ }
+    ensures { λ r. ⌜ ItemIs version (now (tokens .entry)) depth in_loop phased at count r ⌝ }
 {
     let judged = told::judged_of(told);
     match judged {
@@ -186,14 +202,23 @@ fn item(
             let next = at + 1 + size;
             match class {
                 Class::One(single) => {
-                    if may_stand(single, depth, in_loop) {
+                    if may_stand(single, depth, in_loop, phased) {
                         return ItemEnd::Passed(next, count + tally(single));
                     }
                     refused_item(Reason::Block, at)
                 }
                 Class::Opens(opener) => {
                     if depth < MOST_OPEN {
-                        return block(version, tokens, next, count + 1, opener, depth, in_loop);
+                        return block(
+                            version,
+                            tokens,
+                            next,
+                            count + 1,
+                            opener,
+                            depth,
+                            in_loop,
+                            phased,
+                        );
                     }
                     refused_item(Reason::Depth, at)
                 }
@@ -216,9 +241,10 @@ fn block(
     opener: Opener,
     depth: usize,
     in_loop: bool,
+    phased: bool,
 ) -> ItemEnd
     requires { ⌜ StartsAt (now tokens) (depth + 1) at count ⌝ }
-    ensures { λ r. ⌜ BlockIs version (now (tokens .entry)) depth in_loop at count opener r ⌝ }
+    ensures { λ r. ⌜ BlockIs version (now (tokens .entry)) depth in_loop phased at count opener r ⌝ }
 {
     let own = own_closer(opener);
     let first = body(
@@ -228,11 +254,20 @@ fn block(
         count,
         depth + 1,
         loops_in(opener, in_loop),
+        phased,
     );
     match first {
         BodyEnd::Stopped(closer, position, next, counted) => {
             if (own == END_IF) & (closer_number(closer) == ELSE) {
-                let second = body(version, tokens, next, counted + 1, depth + 1, in_loop);
+                let second = body(
+                    version,
+                    tokens,
+                    next,
+                    counted + 1,
+                    depth + 1,
+                    in_loop,
+                    phased,
+                );
                 return close(second, own);
             }
             close(first, own)
@@ -259,7 +294,7 @@ fn check_behind(version: Version, tokens: &[u32]) -> Verdict
     requires { ⌜ 1 ≤ length (now tokens) ⌝ }
     ensures { λ r. ⌜ r ≡ walked version (now (tokens .entry)) ⌝ }
 {
-    let whole = body(version, tokens, 1, 0, 0, false);
+    let whole = body(version, tokens, 1, 0, 0, false, false);
     match whole {
         BodyEnd::Stopped(closer, position, next, count) => finish(
             tokens,

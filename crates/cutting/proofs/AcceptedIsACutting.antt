@@ -91,15 +91,15 @@ ends-closer Loop p a e = e
 ends-closer Rep p a e = e
 
 mutual
-  ends-body : {depth : ℕ} {inLoop : Bool} {a b : Cut} → Body depth inLoop a b → Ends b → Ends a
+  ends-body : {depth : ℕ} {inLoop phased : Bool} {a b : Cut} → Body depth inLoop phased a b → Ends b → Ends a
   ends-body noItem e = e
   ends-body (more x y) e = ends-item x (ends-body y e)
 
-  ends-item : {depth : ℕ} {inLoop : Bool} {a b : Cut} → Item depth inLoop a b → Ends b → Ends a
+  ends-item : {depth : ℕ} {inLoop phased : Bool} {a b : Cut} → Item depth inLoop phased a b → Ends b → Ends a
   ends-item (one h) e = e
   ends-item (block lt x) e = ends-block x e
 
-  ends-block : {depth : ℕ} {inLoop : Bool} {a b : Cut} → Block depth inLoop a b → Ends b → Ends a
+  ends-block : {depth : ℕ} {inLoop phased : Bool} {a b : Cut} → Block depth inLoop phased a b → Ends b → Ends a
   ends-block (closed {o = o} {q = q} {b = b} x) e = ends-body x (ends-closer o q b e)
   ends-block (withElse x y) e = ends-body x (ends-body y e)
 

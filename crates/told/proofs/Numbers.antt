@@ -4,8 +4,11 @@ use mathlib.Core.Bool.{true, false}
 use Prim.Native.Nat.{ℕ, _+_, _*_, _/_, _%_, _^_, _<_}
 use native.Mathlib.Nat.{mod-eq-of-lt}
 use native.Mathlib.Omega.{arith}
-use borrow.Author.Tests.{eqb-true, eqb-false}
+use lib.Dec.{eqb}
+use borrow.Author.Tests.{eqb-true, eqb-false, ne-eqb}
 use Rattle.paper.specs.Numbers.{numberOf, reasonBy}
+use Rattle.paper.specs.Blocks.{Cut, classPhase, beginsPhase}
+use Rattle.paper.specs.Stream.{cutOne}
 use Rattle.paper.proofs.OneToOne.{reason-back, number-few}
 use Rattle.paper.specs.declared.Single.the-variants.{Comment, Plain, Break, Label, Return, Phase}
 use Rattle.paper.specs.declared.Opener.the-variants.{If, Loop, Rep}
@@ -19,7 +22,7 @@ use Rattle.paper.specs.declared.Judged.{Judged}
 use Rattle.paper.specs.declared.Judged.the-variants.{Good, Refused}
 use Rattle.opcodes.specs.Classes.{classNumber}
 use Rattle.opcodes.proofs.Shapes.{class-few}
-use Rattle.told.specs.Numbered.{yesNumber, refusalNumber, judgedNumber, takenNumber, isRefusal, takenIn, sizeIn, kindIn, classBy, judgedFrom}
+use Rattle.told.specs.Numbered.{yesNumber, refusalNumber, judgedNumber, takenNumber, isRefusal, takenIn, sizeIn, kindIn, tellsPhase, classBy, judgedFrom}
 
 class-back : (c : Class) → classBy (classNumber c) ≡ c
 class-back (One Comment) = refl
@@ -72,6 +75,29 @@ pub judged-back : (j : Judged) → judgedFrom (judgedNumber j) ≡ j
 unfolding judgedFrom
 judged-back (Good size class) = rw (yes-even size class, yes-size size class, yes-class size class, class-back class)
 judged-back (Refused r) = rw (refusal-odd r, refusal-position r, refusal-reason r)
+
+-- a PHASE is seen from what is told of it
+class-phase : (c : Class) → eqb (2 * classNumber c) 26 ≡ classPhase c
+class-phase (One Comment) = refl
+class-phase (One Plain) = refl
+class-phase (One Break) = refl
+class-phase (One Label) = refl
+class-phase (One Return) = refl
+class-phase (One Phase) = refl
+class-phase (Opens If) = refl
+class-phase (Opens Loop) = refl
+class-phase (Opens Rep) = refl
+class-phase (Closes Else) = refl
+class-phase (Closes EndIf) = refl
+class-phase (Closes EndLoop) = refl
+class-phase (Closes EndRep) = refl
+class-phase (Closes End) = refl
+
+pub phase-told : (j : Judged) (p : ℕ) (rest : ℕ → Cut) → tellsPhase (judgedNumber j) ≡ beginsPhase (cutOne j p rest)
+phase-told (Good size class) p rest =
+    let low : (32 * size + 2 * classNumber class) % 32 ≡ 2 * classNumber class = omega (arith, class-few class) in
+    rw low (class-phase class)
+phase-told (Refused r) p rest = ne-eqb (refusalNumber r % 32) 26 (λ e. omega arith)
 
 -- an even number tells how many tokens an operand takes, an odd one its refusal
 pub taken-even : (t : Taken) (n : ℕ) → n ≡ takenNumber t → isRefusal n ≡ false → t ≡ Took (takenIn n)

@@ -46,7 +46,7 @@ operandsNumber Fit = 0
 operandsNumber (unfit r) = refusalNumber r
 
 -- back from the number: whether it is a refusal's; the tokens that an operand takes; the size, and a refusal's position; the number of the class, and a refusal's; whether it
--- is the yes of a plain instruction, which has class 1
+-- is the yes of a plain instruction, which has class 1, and whether that of a PHASE, which has class 13
 abbrev pub isRefusal : ℕ → Bool
 isRefusal told = eqb (told % 2) 1
 
@@ -61,6 +61,9 @@ kindIn told = told / 2 % 16
 
 abbrev pub isPlain : ℕ → Bool
 isPlain told = eqb (told % 32) 2
+
+abbrev pub tellsPhase : ℕ → Bool
+tellsPhase told = eqb (told % 32) 26
 
 -- the class
 abbrev pub classBy : ℕ → Class

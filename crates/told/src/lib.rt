@@ -2,7 +2,7 @@
 ghost use mathlib.Core.Path.{_≡_};
 ghost use Prim.Native.Nat.{_%_, _^_};
 ghost use Rattle.paper.specs.Numbers.{numberOf, reasonBy, refusal, toldInstruction};
-ghost use Rattle.told.specs.Numbered.{yesNumber, faultNumber, refusalNumber, isRefusal, takenIn, sizeIn, kindIn, isPlain, classBy, judgedFrom};
+ghost use Rattle.told.specs.Numbered.{yesNumber, faultNumber, refusalNumber, isRefusal, takenIn, sizeIn, kindIn, isPlain, tellsPhase, classBy, judgedFrom};
 use paper::Class;
 use paper::Closer;
 use paper::Judged;
@@ -18,8 +18,10 @@ const KINDS: u64 = 16;
 
 const WHOLE: u64 = HALF * KINDS;
 
-// The class of a plain instruction, as a yes of any size has it.
+// The class of a plain instruction and that of PHASE, as a yes of any size has them.
 const PLAIN: u64 = HALF;
+
+const PHASE: u64 = 13 * HALF;
 
 // Operands that fit; an operand that takes one token, and one that takes two.
 pub const FIT: u64 = 0;
@@ -66,6 +68,13 @@ pub fn is_plain(told: u64) -> bool
     ensures { λ r. ⌜ r ≡ isPlain told ⌝ }
 {
     told % WHOLE == PLAIN
+}
+
+// Whether it is a yes for a PHASE.
+pub fn is_phase(told: u64) -> bool
+    ensures { λ r. ⌜ r ≡ tellsPhase told ⌝ }
+{
+    told % WHOLE == PHASE
 }
 
 // How many tokens an operand takes.

@@ -1,21 +1,21 @@
 -- The number of the open blocks, and the step over it.
 use Prim.Native.Nat.{ℕ, zero, suc, _+_, _*_, _^_, _≤_, _<_, _/_, _%_}
 use mathlib.Core.Path.{_≡_, refl, ap, sym, _∙_}
-use mathlib.Core.Bool.{Bool, true, false, _||_}
+use mathlib.Core.Bool.{Bool, true, false, not, _&&_, _||_}
 use mathlib.Core.List.{List, [], _∷_}
 use native.Mathlib.Nat.{pow-suc}
 use native.Mathlib.Omega.{arith}
 use lib.Dec.{eqb, ltb}
 use lib.ListN.{length}
 use borrow.Author.Tests.{ne-eqb, lt-ltb, le-ltb, ltb-true, ltb-false}
-use Rattle.paper.proofs.Bools.{apart}
+use Rattle.paper.proofs.Bools.{apart, or-false}
 use Rattle.paper.specs.Notation.{pick}
-use Rattle.paper.specs.Blocks.{mostOpen, mayStand, isZero}
-use Rattle.paper.specs.Walk.{Kind, opened, pastElse, loops, inLoop, isEnd, closes, elses, closeAt, step, go, bad, finish}
+use Rattle.paper.specs.Blocks.{mostOpen, mayStand, isPhase, classPhase, isZero}
+use Rattle.paper.specs.Walk.{Kind, opened, pastElse, loops, inLoop, WalkState, nested, marked, isEnd, closes, elses, closeAt, step, go, bad, finish}
 use Rattle.paper.specs.declared.Class.{Class}
 use Rattle.paper.specs.declared.Class.the-variants.{One, Opens, Closes}
 use Rattle.paper.specs.declared.Single.{Single}
-use Rattle.paper.specs.declared.Single.the-variants.{Comment, Plain, Break, Label, Return}
+use Rattle.paper.specs.declared.Single.the-variants.{Comment, Plain, Break, Label, Return, Phase}
 use Rattle.paper.specs.declared.Opener.{Opener}
 use Rattle.paper.specs.declared.Opener.the-variants.{If, Loop, Rep}
 use Rattle.paper.specs.declared.Closer.{Closer}
@@ -126,28 +126,29 @@ loop-seen (k ∷ ks) =
 
 -- the step over numbers is the step over lists
 
-numbered-pick : (b : Bool) (ks : List Kind) → allowedBy b (kindsNumber ks) ≡ numbered (pick b (go ks) (bad BLOCK))
-numbered-pick true ks = refl
-numbered-pick false ks = refl
+numbered-pick : (b : Bool) (w : WalkState) → allowedBy b (kindsNumber (w .kinds)) ≡ numbered (pick b (go w) (bad BLOCK))
+numbered-pick true w = refl
+numbered-pick false w = refl
 
-stands-is : (ks : List Kind) (s : Single) → standsBy (kindsNumber ks) s ≡ numbered (step ks (One s))
-stands-is ks Comment = refl
-stands-is ks Plain = refl
-stands-is ks Break = rw (loop-seen ks) (numbered-pick (inLoop ks) ks)
-stands-is ks Label = rw (none-open ks) (numbered-pick (isZero (length ks)) ks)
-stands-is ks Return = rw (none-open ks) (numbered-pick (isZero (length ks)) ks)
+stands-is : (w : WalkState) (s : Single) → standsBy (kindsNumber (w .kinds)) (w .phased) s ≡ numbered (step w (One s))
+stands-is w Comment = refl
+stands-is w Plain = refl
+stands-is w Break = rw (loop-seen (w .kinds)) (numbered-pick (inLoop (w .kinds)) (marked false w))
+stands-is w Label = rw (none-open (w .kinds)) (numbered-pick (isZero (length (w .kinds))) (marked false w))
+stands-is w Return = rw (none-open (w .kinds)) (numbered-pick (isZero (length (w .kinds))) (marked false w))
+stands-is w Phase = rw (none-open (w .kinds)) (numbered-pick (isZero (length (w .kinds)) && not (w .phased)) (marked true w))
 
-opens-cases : (ks : List Kind) (o : Opener) (below : Bool) →
-    pick below (Go (kindsNumber ks * base + openerDigit o)) (Bad DEPTH) ≡ numbered (pick below (go (opened o ∷ ks)) (bad DEPTH))
+opens-cases : (w : WalkState) (o : Opener) (below : Bool) →
+    pick below (Go (kindsNumber (w .kinds) * base + openerDigit o)) (Bad DEPTH) ≡ numbered (pick below (go (nested (opened o ∷ w .kinds) w)) (bad DEPTH))
 unfolding kindsNumber
-opens-cases ks o true = refl
-opens-cases ks o false = refl
+opens-cases w o true = refl
+opens-cases w o false = refl
 
-opens-is : (ks : List Kind) (o : Opener) → opensBy (kindsNumber ks) o ≡ numbered (step ks (Opens o))
-opens-is ks o = rw (depth-seen ks (ltb (length ks) mostOpen) refl) (opens-cases ks o (ltb (length ks) mostOpen))
+opens-is : (w : WalkState) (o : Opener) → opensBy (kindsNumber (w .kinds)) o ≡ numbered (step w (Opens o))
+opens-is w o = rw (depth-seen (w .kinds) (ltb (length (w .kinds)) mostOpen) refl) (opens-cases w o (ltb (length (w .kinds)) mostOpen))
 
-module _ (ks : List Kind) where
-  closes-top : (k : Kind) (c : Closer) → closesBy (kindsNumber ks * base + digitOf k) c ≡ numbered (closeAt c (k ∷ ks))
+module _ (ks : List Kind) (w : WalkState) where
+  closes-top : (k : Kind) (c : Closer) → closesBy (kindsNumber ks * base + digitOf k) c ≡ numbered (closeAt c (k ∷ ks) w)
   unfolding kindsNumber
   closes-top (opened If) Else = rw (last (kindsNumber ks) (opened If)) (ap Go (omega arith))
   closes-top (opened If) EndIf = rw (last (kindsNumber ks) (opened If), others (kindsNumber ks) (opened If))
@@ -170,41 +171,62 @@ module _ (ks : List Kind) where
   closes-top pastElse EndRep = rw (last (kindsNumber ks) pastElse)
   closes-top pastElse End = rw (none-open (pastElse ∷ ks))
 
-closes-is : (ks : List Kind) (c : Closer) → closesBy (kindsNumber ks) c ≡ numbered (step ks (Closes c))
+closes-is : (ks : List Kind) (w : WalkState) (c : Closer) → closesBy (kindsNumber ks) c ≡ numbered (closeAt c ks w)
 unfolding kindsNumber
-closes-is [] Else = refl
-closes-is [] EndIf = refl
-closes-is [] EndLoop = refl
-closes-is [] EndRep = refl
-closes-is [] End = refl
-closes-is (k ∷ ks) c = closes-top ks k c
+closes-is [] w Else = refl
+closes-is [] w EndIf = refl
+closes-is [] w EndLoop = refl
+closes-is [] w EndRep = refl
+closes-is [] w End = refl
+closes-is (k ∷ ks) w c = closes-top ks w k c
 
-pub next-is : (ks : List Kind) (c : Class) → nextBy (kindsNumber ks) c ≡ numbered (step ks c)
-next-is ks (One s) = stands-is ks s
-next-is ks (Opens o) = opens-is ks o
-next-is ks (Closes c) = closes-is ks c
+pub next-is : (w : WalkState) (c : Class) → nextBy (kindsNumber (w .kinds)) (w .phased) c ≡ numbered (step w c)
+next-is w (One s) = stands-is w s
+next-is w (Opens o) = opens-is w o
+next-is w (Closes c) = closes-is (w .kinds) w c
+
+-- what a step goes on with has what every state has that it may go on with
+module _ (Has : WalkState → Type 0) where
+  pick-has : (b : Bool) (w u : WalkState) (reason : Reason) → (b ≡ true → Has w) → pick b (go w) (bad reason) ≡ go u → Has u
+  pick-has true w u reason h e = let same : w ≡ u = cc in rw same at (h refl)
+  pick-has false w u reason h e = apart (cc)
+
+  else-has : (elsed closed : Bool) (x w u : WalkState) → Has x → Has w → pick elsed (go x) (pick closed (go w) (bad BLOCK)) ≡ go u → Has u
+  else-has true closed x w u h j e = pick-has true x u BLOCK (λ t. h) e
+  else-has false closed x w u h j e = pick-has closed w u BLOCK (λ t. j) e
+
+  none-has : (b : Bool) (u : WalkState) → pick b finish (bad BLOCK) ≡ go u → Has u
+  none-has true u e = apart (cc)
+  none-has false u e = apart (cc)
+
+  close-has : (c : Closer) (ks : List Kind) (w u : WalkState) →
+      ((k : Kind) (ls : List Kind) → ks ≡ k ∷ ls → Has (nested (pastElse ∷ ls) w) × Has (nested ls w)) → closeAt c ks w ≡ go u → Has u
+  close-has c [] w u h e = none-has (isEnd c) u e
+  close-has c (k ∷ ks) w u h e = else-has (elses c k) (closes c k) (nested (pastElse ∷ ks) w) (nested ks w) u (h k ks refl .0) (h k ks refl .1) e
 
 -- the step keeps at most mostOpen blocks open
+abbrev Few : WalkState → Type 0
+Few w = length (w .kinds) ≤ mostOpen
 
-pick-few : (b : Bool) (ks ls : List Kind) (reason : Reason) → length ks ≤ mostOpen → pick b (go ks) (bad reason) ≡ go ls → length ls ≤ mostOpen
-pick-few true ks ls reason h e = let same : ks ≡ ls = cc in rw same at h
-pick-few false ks ls reason h e = apart (cc)
+closed-few : (w : WalkState) → Few w → (k : Kind) (ks : List Kind) → w .kinds ≡ k ∷ ks → Few (nested (pastElse ∷ ks) w) × Few (nested ks w)
+closed-few w h k ks e = let long : length (w .kinds) ≡ length (k ∷ ks) = ap length e in (omega arith, omega arith)
 
-open-few : (b : Bool) (ks ls : List Kind) (o : Opener) → ltb (length ks) mostOpen ≡ b → pick b (go (opened o ∷ ks)) (bad DEPTH) ≡ go ls → length ls ≤ mostOpen
-open-few true ks ls o e f = pick-few true (opened o ∷ ks) ls DEPTH (omega (arith, ltb-true (length ks) mostOpen e)) f
-open-few false ks ls o e f = apart (cc)
+pub step-few : (w u : WalkState) (c : Class) → Few w → step w c ≡ go u → Few u
+step-few w u (One s) h e =
+    pick-has Few (mayStand (length (w .kinds)) (inLoop (w .kinds)) (w .phased) s) (marked (isPhase s) w) u BLOCK (λ t. h) e
+step-few w u (Opens o) h e =
+    pick-has Few (ltb (length (w .kinds)) mostOpen) (nested (opened o ∷ w .kinds) w) u DEPTH
+    (λ t. omega (arith, ltb-true (length (w .kinds)) mostOpen t)) e
+step-few w u (Closes c) h e = close-has Few c (w .kinds) w u (closed-few w h) e
 
-close-few : (elsed closed : Bool) (k : Kind) (ks ls : List Kind) → length (k ∷ ks) ≤ mostOpen →
-    pick elsed (go (pastElse ∷ ks)) (pick closed (go ks) (bad BLOCK)) ≡ go ls → length ls ≤ mostOpen
-close-few true closed k ks ls h e = pick-few true (pastElse ∷ ks) ls BLOCK h e
-close-few false closed k ks ls h e = pick-few closed ks ls BLOCK (omega arith) e
+-- and marks a PHASE
+module _ (w u : WalkState) where
+  abbrev Marked : Bool → WalkState → Type 0
+  Marked phase x = w .phased || phase ≡ x .phased
 
-none-few : (b : Bool) (ls : List Kind) → pick b finish (bad BLOCK) ≡ go ls → length ls ≤ mostOpen
-none-few true ls e = apart (cc)
-none-few false ls e = apart (cc)
-
-pub step-few : (ks ls : List Kind) (c : Class) → length ks ≤ mostOpen → step ks c ≡ go ls → length ls ≤ mostOpen
-step-few ks ls (One s) h e = pick-few (mayStand (length ks) (inLoop ks) s) ks ls BLOCK h e
-step-few ks ls (Opens o) h e = open-few (ltb (length ks) mostOpen) ks ls o refl e
-step-few [] ls (Closes c) h e = none-few (isEnd c) ls e
-step-few (k ∷ ks) ls (Closes c) h e = close-few (elses c k) (closes c k) k ks ls h e
+  pub step-mark : (c : Class) → step w c ≡ go u → Marked (classPhase c) u
+  step-mark (One s) e =
+      pick-has (Marked (isPhase s)) (mayStand (length (w .kinds)) (inLoop (w .kinds)) (w .phased) s) (marked (isPhase s) w) u BLOCK (λ t. refl) e
+  step-mark (Opens o) e =
+      pick-has (Marked false) (ltb (length (w .kinds)) mostOpen) (nested (opened o ∷ w .kinds) w) u DEPTH (λ t. or-false (w .phased)) e
+  step-mark (Closes c) e = close-has (Marked false) c (w .kinds) w u (λ k ks f. (or-false (w .phased), or-false (w .phased))) e

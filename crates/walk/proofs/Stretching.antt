@@ -7,6 +7,9 @@ use native.Mathlib.Omega.{arith}
 use lib.ListN.{length, drop}
 use Rattle.paper.specs.Instruction.{judged}
 use Rattle.paper.specs.declared.Version.{Version}
+use Rattle.paper.specs.declared.Class.the-variants.{One}
+use Rattle.paper.specs.declared.Single.the-variants.{Plain}
+use Rattle.paper.specs.declared.Judged.the-variants.{Good}
 use Rattle.told.specs.Numbered.{sizeIn, judgedNumber, judgedFrom}
 use Rattle.stretches.specs.Stretch.{toldAt, PlainTo, here, past}
 use Rattle.stretches.specs.declared.Stretch.{Stretch}
@@ -29,9 +32,10 @@ leads-none : {v : Version} {tokens : List ℕ} {beyond start at n : ℕ} → Pla
 leads-none here = (refl, refl)
 leads-none (past l p s) = absurd (omega arith)
 
--- so many tokens and so many instructions further, with the same blocks
+-- so many tokens and so many instructions further, with the same blocks and the same mark
 abbrev further : State → ℕ → ℕ → State
-further state tokens instructions = record { at = state .at + tokens; count = state .count + instructions; kinds = state .kinds }
+further state tokens instructions =
+    record { at = state .at + tokens; count = state .count + instructions; kinds = state .kinds; phased = state .phased }
 
 passed-is : (state : State) (at : ℕ) (r : Stretch) (tokens : ℕ) → r .at ≡ at + tokens → state .at + tokens < 2 ^ 64 → state .count + r .count < 2 ^ 64 →
     passed state at r ≡ further state tokens (r .count)
@@ -70,6 +74,14 @@ module _ (v : Version) (s : List ℕ) (fits : length s < 2 ^ 64) where
       let comes = subst (Comes v s (t .last .at + 1)) (t .steps) (step-comes v s (t .last) (t .stands) inside fits) in
       comes-since v s x (t .last .at + 1) comes (from + 1) (omega (arith, t .behind))
 
+  -- a plain instruction further
+  plain-stands : (state : State) (k n : ℕ) → Stands v s (further state k n) → state .at + k < length s → (size : ℕ) →
+      judged v (drop (state .at + k) s) ≡ Good size (One Plain) → Stands v s (further state (k + suc size) (suc n))
+  plain-stands state k n stands inside size good =
+      let place : state .at + k + suc size ≡ state .at + (k + suc size) = omega arith in
+      let more : suc (state .count + n) ≡ state .count + suc n = omega arith in
+      rw (place, more) at (stands-plain v s (further state k n) stands inside fits size good)
+
   module _
       (tokens : List ℕ)
       (beyond stop at end : ℕ)
@@ -88,13 +100,7 @@ module _ (v : Version) (s : List ℕ) (fits : length s < 2 ^ 64) where
           let is = ap (toldAt v tokens beyond) (p .1) ∙ shows .same k (omega (arith, p .1, p .2)) in
           let good = plain-judged (judged v (drop (state .at + k) s)) told is plain in
           let inside : state .at + k < length s = omega (arith, p .1, p .2, shows .inside) in
-          let place : state .at + k + suc (sizeIn told) ≡ state .at + (k + suc (sizeIn told)) = omega arith in
-          let more : suc (state .count + n) ≡ state .count + suc n = omega arith in (
-            k + suc (sizeIn told),
-            omega (arith, p .1),
-            omega arith,
-            rw (← place, ← more) (stands-plain v s (further state k n) (p .3) inside fits (sizeIn told) good),
-          )
+          (k + suc (sizeIn told), omega (arith, p .1), omega arith, plain-stands state k n (p .3) inside (sizeIn told) good)
 
       -- the pass is a step of the stream's walk
       pub pass-steps : (x : Step) → Passes v tokens state at stop beyond (toldStep x) → Steps v s (state .at) (state .at + (end - at)) x

@@ -1,6 +1,6 @@
 -- The open blocks as one number: a digit for each, the innermost lowest. No block has digit 0, so that 0 says that none is open.
 use Prim.Native.Nat.{ℕ, zero, suc, _+_, _*_, _-_, _/_, _%_, _^_}
-use mathlib.Core.Bool.{Bool, false, _||_}
+use mathlib.Core.Bool.{Bool, false, not, _&&_, _||_}
 use mathlib.Core.List.{List, [], _∷_}
 use lib.Dec.{eqb, ltb}
 use Rattle.paper.specs.Notation.{pick}
@@ -9,7 +9,7 @@ use Rattle.paper.specs.Walk.{Next as Said}
 use Rattle.paper.specs.declared.Class.{Class}
 use Rattle.paper.specs.declared.Class.the-variants.{One, Opens, Closes}
 use Rattle.paper.specs.declared.Single.{Single}
-use Rattle.paper.specs.declared.Single.the-variants.{Comment, Plain, Break, Label, Return}
+use Rattle.paper.specs.declared.Single.the-variants.{Comment, Plain, Break, Label, Return, Phase}
 use Rattle.paper.specs.declared.Opener.{Opener}
 use Rattle.paper.specs.declared.Opener.the-variants.{If, Loop, Rep}
 use Rattle.paper.specs.declared.Closer.{Closer}
@@ -36,7 +36,7 @@ kindsNumber (k ∷ ks) = kindsNumber ks * base + digitOf k
 
 -- what the walk with open blocks does next, said by their number
 abbrev pub numbered : Said → Next
-numbered (go ks) = Go (kindsNumber ks)
+numbered (go w) = Go (kindsNumber (w .kinds))
 numbered (bad reason) = Bad reason
 numbered finish = Finish
 
@@ -57,12 +57,13 @@ inLoopBy kinds = loopWithin kinds kinds
 abbrev pub allowedBy : Bool → ℕ → Next
 allowedBy allowed kinds = pick allowed (Go kinds) (Bad BLOCK)
 
-abbrev pub standsBy : ℕ → Single → Next
-standsBy kinds Comment = Go kinds
-standsBy kinds Plain = Go kinds
-standsBy kinds Break = allowedBy (inLoopBy kinds) kinds
-standsBy kinds Label = allowedBy (eqb kinds 0) kinds
-standsBy kinds Return = allowedBy (eqb kinds 0) kinds
+abbrev pub standsBy : ℕ → Bool → Single → Next
+standsBy kinds phased Comment = Go kinds
+standsBy kinds phased Plain = Go kinds
+standsBy kinds phased Break = allowedBy (inLoopBy kinds) kinds
+standsBy kinds phased Label = allowedBy (eqb kinds 0) kinds
+standsBy kinds phased Return = allowedBy (eqb kinds 0) kinds
+standsBy kinds phased Phase = allowedBy (eqb kinds 0 && not phased) kinds
 
 -- 24 digits, none of them 0, are at least base ^ 23, and 23 digits are below
 abbrev pub opensBy : ℕ → Opener → Next
@@ -75,7 +76,7 @@ closesBy kinds EndLoop = allowedBy (eqb (kinds % base) (openerDigit Loop)) (kind
 closesBy kinds EndRep = allowedBy (eqb (kinds % base) (openerDigit Rep)) (kinds / base)
 closesBy kinds End = pick (eqb kinds 0) Finish (Bad BLOCK)
 
-abbrev pub nextBy : ℕ → Class → Next
-nextBy kinds (One s) = standsBy kinds s
-nextBy kinds (Opens o) = opensBy kinds o
-nextBy kinds (Closes c) = closesBy kinds c
+abbrev pub nextBy : ℕ → Bool → Class → Next
+nextBy kinds phased (One s) = standsBy kinds phased s
+nextBy kinds phased (Opens o) = opensBy kinds o
+nextBy kinds phased (Closes c) = closesBy kinds c

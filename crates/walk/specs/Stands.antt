@@ -1,10 +1,10 @@
 -- Where a walk stands in a stream, and where a step of it comes to.
 use Prim.Native.Nat.{ℕ, _+_, _≤_}
 use mathlib.Core.Path.{_≡_}
-use mathlib.Core.List.{List, []}
+use mathlib.Core.List.{List}
 use lib.ListN.{length, drop}
 use Rattle.paper.specs.Instruction.{judged}
-use Rattle.paper.specs.Walk.{Kind}
+use Rattle.paper.specs.Walk.{WalkState, begin}
 use Rattle.paper.specs.Blocks.{mostOpen}
 use Rattle.paper.specs.Stream.{cutFrom, walked}
 use Rattle.paper.specs.declared.Version.{Version}
@@ -17,14 +17,15 @@ use Rattle.walk.specs.declared.Step.{Step}
 use Rattle.walk.specs.Kinds.{kindsNumber}
 use Rattle.walk.specs.Steps.{onJudged, verdictBy}
 
--- The walk of the stream comes to this position with these blocks open, past so many instructions.
+-- The walk of the stream comes to this position, carrying the open blocks and the mark of a PHASE, past so many instructions.
 pub record Stands (v : Version) (s : List ℕ) (state : State) : Type 0 where
-  pub opened : List Kind
-  pub numbered : state .kinds ≡ kindsNumber opened
-  pub few : length opened ≤ mostOpen
+  pub carries : WalkState
+  pub numbered : state .kinds ≡ kindsNumber (carries .kinds)
+  pub marked : state .phased ≡ carries .phased
+  pub few : length (carries .kinds) ≤ mostOpen
   pub within : state .at ≤ length s
   pub counted : state .count ≤ state .at
-  pub reaches : Reaches (cutFrom v s 1) [] (cutFrom v s (state .at)) opened
+  pub reaches : Reaches (cutFrom v s 1) begin (cutFrom v s (state .at)) carries
   pub counts : countOf (cutFrom v s 1) ≡ state .count + countOf (cutFrom v s (state .at))
 
 -- the step at a position of a stream

@@ -2,11 +2,12 @@
 -- Document 01, "The numbers given back": RUN-OUT, the operands, then BLOCK and DEPTH.
 use Prim.Native.Nat.{ℕ, _+_, _-_, _%_, _^_}
 use mathlib.Core.Path.{_≡_}
-use mathlib.Core.Bool.{Bool, true, false, _&&_}
+use mathlib.Core.Bool.{Bool, true, false, _&&_, _||_}
 use mathlib.Core.List.{List}
 use lib.Dec.{ltb}
 use Rattle.paper.specs.Notation.{pick}
 use Rattle.paper.specs.Numbers.{numberOf, refusal}
+use Rattle.paper.specs.Blocks.{classPhase}
 use Rattle.paper.specs.Walk.{counts}
 use Rattle.paper.specs.declared.Version.{Version}
 use Rattle.paper.specs.declared.Class.{Class}
@@ -32,17 +33,27 @@ wrapped n = n % 2 ^ 64
 
 -- the walk begins behind the version
 abbrev pub begun : State
-begun = record { at = 1; count = 0; kinds = 0 }
+begun = record { at = 1; count = 0; kinds = 0; phased = false }
 
 -- the state behind an instruction that takes so many tokens behind its first one
 abbrev pub behindOf : State → ℕ → Class → ℕ → State
 behindOf state size class kinds =
-    record { at = wrapped (wrapped (state .at + size) + 1); count = wrapped (counts class (state .count)); kinds = kinds }
+    record {
+      at = wrapped (wrapped (state .at + size) + 1);
+      count = wrapped (counts class (state .count));
+      kinds = kinds;
+      phased = state .phased || classPhase class;
+    }
 
 -- the state at the end of a stretch that begins at a place of the tokens shown
 abbrev pub passed : State → ℕ → Stretch → State
 passed state at stretch =
-    record { at = wrapped (state .at + (stretch .at - at)); count = wrapped (state .count + stretch .count); kinds = state .kinds }
+    record {
+      at = wrapped (state .at + (stretch .at - at));
+      count = wrapped (state .count + stretch .count);
+      kinds = state .kinds;
+      phased = state .phased;
+    }
 
 abbrev pub stepOf : Move → State → Step
 stepOf answer state = record { answer = answer; state = state }
@@ -54,7 +65,7 @@ onNextBy (Bad reason) state size class = stepOf (Refused (refusal reason (state 
 onNextBy Finish state size class = stepOf Done (behindOf state size class (state .kinds))
 
 abbrev pub onJudged : Judged → State → Step
-onJudged (Good size class) state = onNextBy (nextBy (state .kinds) class) state size class
+onJudged (Good size class) state = onNextBy (nextBy (state .kinds) (state .phased) class) state size class
 onJudged (unfit r) state = stepOf (Refused (refusal (r .reason) (wrapped (state .at + r .position)))) state
 
 -- what is told of a step: the number of a refusal, or 0, and its position; 1 where an END finishes the stream; the state

@@ -1,6 +1,7 @@
 // The walk of a stream, a stretch of plain instructions and one more at a time: document 01, "The numbers given back" and "Blocks".
 ghost use mathlib.Core.Path.{_≡_};
 ghost use Rattle.paper.specs.Numbers.{refusal, told};
+ghost use Rattle.paper.specs.Blocks.{isPhase, classPhase};
 ghost use Rattle.paper.specs.Walk.{counts};
 ghost use Rattle.told.specs.Numbered.{judgedFrom};
 ghost use Rattle.walk.specs.Kinds.{inLoopBy, allowedBy, standsBy, opensBy, closesBy, nextBy};
@@ -66,8 +67,8 @@ fn go_if(allowed: bool, kinds: u64) -> Next
     Next::Bad(Reason::Block)
 }
 
-fn stand_in(kinds: u64, single: Single) -> Next
-    ensures { λ r. ⌜ r ≡ standsBy kinds single ⌝ }
+fn stand_in(kinds: u64, phased: bool, single: Single) -> Next
+    ensures { λ r. ⌜ r ≡ standsBy kinds phased single ⌝ }
 {
     match single {
         Single::Comment => Next::Go(kinds),
@@ -75,6 +76,7 @@ fn stand_in(kinds: u64, single: Single) -> Next
         Single::Break => go_if(in_loop(kinds), kinds),
         Single::Label => go_if(kinds == 0, kinds),
         Single::Return => go_if(kinds == 0, kinds),
+        Single::Phase => go_if((kinds == 0) & !phased, kinds),
     }
 }
 
@@ -114,21 +116,47 @@ fn close_in(kinds: u64, closer: Closer) -> Next
     }
 }
 
-fn next_kinds(kinds: u64, class: Class) -> Next
-    ensures { λ r. ⌜ r ≡ nextBy kinds class ⌝ }
+fn next_kinds(kinds: u64, phased: bool, class: Class) -> Next
+    ensures { λ r. ⌜ r ≡ nextBy kinds phased class ⌝ }
 {
     match class {
-        Class::One(single) => stand_in(kinds, single),
+        Class::One(single) => stand_in(kinds, phased, single),
         Class::Opens(opener) => open_in(kinds, opener),
         Class::Closes(closer) => close_in(kinds, closer),
     }
 }
 
-// Where a walk stands: the position of the next instruction, the number of instructions before it, comments not counted, and the open blocks.
+fn is_phase(single: Single) -> bool
+    ensures { λ r. ⌜ r ≡ isPhase single ⌝ }
+{
+    match single {
+        Single::Comment => false,
+        Single::Plain => false,
+        Single::Break => false,
+        Single::Label => false,
+        Single::Return => false,
+        Single::Phase => true,
+    }
+}
+
+// Whether an instruction of this class marks that a PHASE has stood.
+fn marks(class: Class) -> bool
+    ensures { λ r. ⌜ r ≡ classPhase class ⌝ }
+{
+    match class {
+        Class::One(single) => is_phase(single),
+        Class::Opens(_) => false,
+        Class::Closes(_) => false,
+    }
+}
+
+// Where a walk stands: the position of the next instruction, the number of instructions before it, comments not counted, the open blocks,
+// and whether a PHASE has stood.
 pub struct State {
     pub at: usize,
     pub count: usize,
     pub kinds: u64,
+    pub phased: bool,
 }
 
 // What a step of the walk answers: it goes on, is behind an END that finishes the stream, or is refused.
@@ -152,6 +180,7 @@ pub fn start() -> State
         at: 1,
         count: 0,
         kinds: 0,
+        phased: false,
     }
 }
 
@@ -172,7 +201,7 @@ fn counted(class: Class, count: usize) -> usize
     match class {
         Class::One(single) => match single {
             Single::Comment => count,
-            Single::Plain | Single::Break | Single::Label | Single::Return => more,
+            Single::Plain | Single::Break | Single::Label | Single::Return | Single::Phase => more,
         },
         Class::Opens(_) => more,
         Class::Closes(closer) => match closer {
@@ -188,14 +217,20 @@ fn behind_of(state: State, size: usize, class: Class, kinds: u64) -> State
 {
     let at = std::num::wrapping_add_usize(std::num::wrapping_add_usize(state.at, size), 1);
     let count = counted(class, state.count);
-    State { at, count, kinds }
+    let phased = state.phased | marks(class);
+    State {
+        at,
+        count,
+        kinds,
+        phased,
+    }
 }
 
-// A good instruction, which the open blocks let stand, or do not.
+// A good instruction, which the open blocks and the mark of a PHASE let stand, or do not.
 fn nested(state: State, size: usize, class: Class) -> Step
-    ensures { λ r. ⌜ r ≡ onNextBy (nextBy (state .kinds) class) state size class ⌝ }
+    ensures { λ r. ⌜ r ≡ onNextBy (nextBy (state .kinds) (state .phased) class) state size class ⌝ }
 {
-    let next = next_kinds(state.kinds, class);
+    let next = next_kinds(state.kinds, state.phased, class);
     match next {
         Next::Go(kinds) => {
             let behind = behind_of(state, size, class, kinds);
@@ -250,6 +285,7 @@ pub fn pass(
         at: std::num::wrapping_add_usize(state.at, stretch.at - at),
         count: std::num::wrapping_add_usize(state.count, stretch.count),
         kinds: state.kinds,
+        phased: state.phased,
     };
     moved(last, stretch.told)
 }

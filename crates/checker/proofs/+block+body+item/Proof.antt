@@ -26,6 +26,7 @@ use Rattle.checker.proofs.own_closer.Reads as own-closer-reads
 use Rattle.checker.proofs.refused_item.Reads as refused-item-reads
 use Rattle.checker.proofs.tally.Reads as tally-reads
 use Rattle.stretches.proofs.judge_stretch.Reads as judge-stretch-reads
+use Rattle.told.proofs.is_phase.Reads as is-phase-reads
 use Rattle.told.proofs.judged_of.Reads as judged-of-reads
 use Rattle.checker.proofs.+block+body+item.{statement}
 use Rattle.checker.proofs.+block+body+item.Tie.{close}
@@ -59,10 +60,11 @@ abbrev item-below : ℕ → In 1 item-kinds.ps
 item-below t = and 1 item-kinds.ps (falls 1 item-kinds.ps _<_ μ-item t) item.Pre
 
 abbrev body-Inv-loop : body-lts.InvT-loop
-body-Inv-loop version tokens at count depth in-loop place₀ counted₀ place counted = Reached version tokens depth in-loop at count place counted
+body-Inv-loop version tokens at count depth in-loop phased place₀ counted₀ marked₀ place counted marked =
+    Reached version tokens depth in-loop phased at count place counted marked
 
 abbrev body-μ-loop : body-lts.MeasureT-loop
-body-μ-loop version tokens at count depth in-loop place₀ counted₀ place counted = length tokens - place
+body-μ-loop version tokens at count depth in-loop phased place₀ counted₀ marked₀ place counted marked = length tokens - place
 
 pub +block+body+item-spec : {M : Type 1} → statement M
 +block+body+item-spec = close μ-block μ-body μ-item (λ t. block-lts.spec (
@@ -102,7 +104,7 @@ pub +block+body+item-spec : {M : Type 1} → statement M
     low (omega (arith, start .good)) (c .body2 .ensures) refl)
     (λ c. let first = c .before .before .before .before .before in
     let opening = first .before .before in
-    block-else _ _ _ (opening .before .before .own-closer .ensures) (opening .before .loops-in .ensures) (opening .body .ensures)
+    block-else _ _ _ _ (opening .before .before .own-closer .ensures) (opening .before .loops-in .ensures) (opening .body .ensures)
     (first .first .given .1) (c .before .before .before .closer-number .ensures) (c .before .before .if1 .taken) (c .before .body2 .ensures) (c .close .ensures))
     (λ c κs. let first = c .before .before .before in
     let opening = first .before .before in
@@ -111,13 +113,13 @@ pub +block+body+item-spec : {M : Type 1} → statement M
     (λ c. search needs)
     (λ c. let first = c .before .before .before .before in
     let opening = first .before .before in
-    block-closed _ _ _ (opening .before .before .own-closer .ensures) (opening .before .loops-in .ensures) (opening .body .ensures)
+    block-closed _ _ _ _ (opening .before .before .own-closer .ensures) (opening .before .loops-in .ensures) (opening .body .ensures)
     (first .first .given .1) (c .before .before .closer-number .ensures) (c .before .if1 .left) (c .close2 .ensures))
     (λ c. let first = c .before in
     let opening = first .before .before in
-    block-broken _ _ _ (opening .before .before .own-closer .ensures) (opening .before .loops-in .ensures) (opening .body .ensures) (first .first2 .given .1)))
+    block-broken _ _ _ _ (opening .before .before .own-closer .ensures) (opening .before .loops-in .ensures) (opening .body .ensures) (first .first2 .given .1)))
     (λ t. body-lts.spec
-    (judge-stretch-reads.Asked, judge-stretch-reads.Learnt, item-below t, item.Post)
+    (judge-stretch-reads.Asked, judge-stretch-reads.Learnt, item-below t, item.Post, is-phase-reads.Asked, is-phase-reads.Learnt)
     (body-at t)
     body.Post
     body-Inv-loop
@@ -135,17 +137,18 @@ pub +block+body+item-spec : {M : Type 1} → statement M
       (begins-at (start .pre .1) there, stretch .judge-stretch .ensures .is),
     ))
     (λ c. search needs)
-    (λ c. let item = c .before .before .before in
+    (λ c κs. search needs)
+    (λ c. let item = c .before .before .before .before in
     let stretch = item .before .before in
     let start = stretch .before .before .before in
     let there = stretch-passed (start .pre .1) (stretch .before .loop .inv) (stretch .judge-stretch .ensures .leads) in
-    let moves = item-moves there (item .item .ensures) (c .before .end .given .1) in
+    let moves = item-moves there (item .item .ensures) (c .before .before .end .given .1) in
     omega (arith, leads-on (stretch .judge-stretch .ensures .leads), moves .after, moves .inside))
-    (λ c. let item = c .before .before .before in
+    (λ c. let item = c .before .before .before .before in
     let stretch = item .before .before in
     let start = stretch .before .before .before in
     let there = stretch-passed (start .pre .1) (stretch .before .loop .inv) (stretch .judge-stretch .ensures .leads) in
-    reached-on there (item .item .ensures) (c .before .end .given .1))
+    reached-on there (item .item .ensures) (c .before .before .end .given .1) (stretch .judge-stretch .ensures .is) (c .is-phase .ensures))
     (λ c. search needs)
     (λ c. let item = c .before .before .before in
     let stretch = item .before .before in

@@ -9,4 +9,5 @@ behind-of-spec =
     (λ c κs. search needs)
     (λ c κs. search needs)
     (λ c κs. search needs)
-    (λ c. simp (c .counted .ensures, c .before .wrapping-add-usize2 .ensures, c .before .before .wrapping-add-usize .ensures)))
+    (λ c κs. search needs)
+    (λ c. simp (c .before .marks .ensures, c .before .before .counted .ensures, c .before .before .before .wrapping-add-usize2 .ensures, c .before .before .before .before .wrapping-add-usize .ensures)))

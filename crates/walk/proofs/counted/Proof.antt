@@ -10,7 +10,7 @@ use denote.Enum.Declared.{tagOf}
 use Rattle.paper.specs.Walk.{counts}
 use Rattle.paper.specs.declared.Class.the-variants.{One, Closes}
 use Rattle.paper.specs.declared.Single.{Single}
-use Rattle.paper.specs.declared.Single.the-variants.{Comment, Plain, Break, Label, Return}
+use Rattle.paper.specs.declared.Single.the-variants.{Comment, Plain, Break, Label, Return, Phase}
 use Rattle.paper.specs.declared.Closer.{Closer}
 use Rattle.paper.specs.declared.Closer.the-variants.{Else, EndIf, EndLoop, EndRep, End}
 use Rattle.paper.proofs.Single.{the-type as single}
@@ -20,12 +20,13 @@ use Rattle.walk.proofs.counted.Statement.{statement}
 use Rattle.walk.proofs.counted.Tie as tie
 
 -- every single instruction but a comment, and every closer but END
-single-counts : (s : Single) (n : ℕ) → OneOf (1 ∷ 2 ∷ 3 ∷ 4 ∷ []) (tagOf single s) → counts (One s) n ≡ suc n
-single-counts Comment n h = absurd (⊎-elim (λ e. omega arith) (⊎-elim (λ e. omega arith) (⊎-elim (λ e. omega arith) (λ e. omega arith))) h)
+single-counts : (s : Single) (n : ℕ) → OneOf (1 ∷ 2 ∷ 3 ∷ 4 ∷ 5 ∷ []) (tagOf single s) → counts (One s) n ≡ suc n
+single-counts Comment n h = absurd (⊎-elim (λ e. omega arith) (⊎-elim (λ e. omega arith) (⊎-elim (λ e. omega arith) (⊎-elim (λ e. omega arith) (λ e. omega arith)))) h)
 single-counts Plain n h = refl
 single-counts Break n h = refl
 single-counts Label n h = refl
 single-counts Return n h = refl
+single-counts Phase n h = refl
 
 closer-counts : (c : Closer) (n : ℕ) → OneOf (0 ∷ 1 ∷ 2 ∷ 3 ∷ []) (tagOf closer c) → counts (Closes c) n ≡ suc n
 closer-counts Else n h = refl
