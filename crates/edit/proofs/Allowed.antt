@@ -10,7 +10,7 @@ use lib.Seq.{getD-take, length-take-le}
 use borrow.Author.Tests.{leb-true, le-leb}
 use Rattle.paper.specs.Notation.{pick}
 use Rattle.paper.specs.Versions.{named}
-use Rattle.paper.specs.Walk.{Kind}
+use Rattle.paper.specs.Walk.{WalkState}
 use Rattle.paper.proofs.StreamVerdict.{verdict-walked}
 use Rattle.paper.specs.Stream.{walked, verdict, mostTokens, lengthLaid}
 use Rattle.paper.specs.declared.Version.{Version}
@@ -36,8 +36,8 @@ pub record Allowed (room : ℕ) (old : List ℕ) (i j : ℕ) (run : List ℕ) (v
 
 -- both places are boundaries, in order; so they lie behind the version and before the token count
 pub record Places (v : Version) (old : List ℕ) (i j : ℕ) : Type 0 where
-  pub first : List Kind
-  pub last : List Kind
+  pub first : WalkState
+  pub last : WalkState
   pub first-stands : standingAt v old i ≡ standsWith first
   pub last-stands : standingAt v old j ≡ standsWith last
   pub behind : 1 ≤ i

@@ -11,7 +11,7 @@ use Rattle.paper.specs.Notation.{pick}
 use Rattle.paper.specs.Numbers.{refusal}
 use Rattle.paper.specs.Instruction.{judged}
 use Rattle.paper.specs.Blocks.{Cut, out, wrong, then}
-use Rattle.paper.specs.Walk.{Kind, Next, go, bad, finish, step, atEnd, onNext}
+use Rattle.paper.specs.Walk.{WalkState, Next, go, bad, finish, step, atEnd, onNext}
 use Rattle.paper.specs.Stream.{cutOne, cutting, cutFrom, walked, verdict}
 use Rattle.paper.specs.declared.Version.{Version}
 use Rattle.paper.specs.declared.Reason.{Reason}
@@ -65,36 +65,36 @@ late-end n (out p) r e = apart (cc)
 late-end n (wrong p x) r e = position-of TAIL p r e
 late-end n (then class p rest) r e = position-of TAIL p r e
 
-late-next : (n p : ℕ) (rest : Cut) (on : List Kind → Verdict) (r : Refusal) → p ≤ startOf rest → ((ks : List Kind) → on ks ≡ Refused r → p ≤ r .position) →
+late-next : (n p : ℕ) (rest : Cut) (on : WalkState → Verdict) (r : Refusal) → p ≤ startOf rest → ((w : WalkState) → on w ≡ Refused r → p ≤ r .position) →
     (x : Next) → onNext x n p rest on ≡ Refused r → p ≤ r .position
-late-next n p rest on r h later (go ks) e = later ks e
+late-next n p rest on r h later (go w) e = later w e
 late-next n p rest on r h later (bad reason) e = omega (arith, position-of reason p r e)
 late-next n p rest on r h later finish e = omega (arith, late-end n rest r e)
 
-late-one : (n p : ℕ) (rest : ℕ → Cut) (ks : List Kind) (r : Refusal) → ((m : ℕ) → p ≤ startOf (rest m)) →
-    ((m : ℕ) (ls : List Kind) → nesting n (rest m) ls ≡ Refused r → p ≤ r .position) →
-    (judgement : Judged) → nesting n (cutOne judgement p rest) ks ≡ Refused r → p ≤ r .position
+late-one : (n p : ℕ) (rest : ℕ → Cut) (w : WalkState) (r : Refusal) → ((m : ℕ) → p ≤ startOf (rest m)) →
+    ((m : ℕ) (u : WalkState) → nesting n (rest m) u ≡ Refused r → p ≤ r .position) →
+    (judgement : Judged) → nesting n (cutOne judgement p rest) w ≡ Refused r → p ≤ r .position
 unfolding nesting
-late-one n p rest ks r h later (Good size class) e =
-    late-next n p (rest (suc size)) (λ next. nesting n (rest (suc size)) next) r (h (suc size)) (later (suc size)) (step ks class) e
-late-one n p rest ks r h later (unfit x) e = omega (arith, position-of (x .reason) (p + x .position) r e)
+late-one n p rest w r h later (Good size class) e =
+    late-next n p (rest (suc size)) (λ next. nesting n (rest (suc size)) next) r (h (suc size)) (later (suc size)) (step w class) e
+late-one n p rest w r h later (unfit x) e = omega (arith, position-of (x .reason) (p + x .position) r e)
 
-late : (most n : ℕ) (v : Version) (tokens : List ℕ) (p : ℕ) (ks : List Kind) (r : Refusal) → nesting n (cutting most v tokens p) ks ≡ Refused r → p ≤ r .position
+late : (most n : ℕ) (v : Version) (tokens : List ℕ) (p : ℕ) (w : WalkState) (r : Refusal) → nesting n (cutting most v tokens p) w ≡ Refused r → p ≤ r .position
 unfolding cutting nesting
-late zero n v tokens p ks r e = omega (arith, position-of RUN-OUT p r e)
-late (suc most) n v [] p ks r e = omega (arith, position-of RUN-OUT p r e)
-late (suc most) n v (token ∷ rest) p ks r e =
-    late-one n p (λ m. cutting most v (drop m (token ∷ rest)) (p + m)) ks r
+late zero n v tokens p w r e = omega (arith, position-of RUN-OUT p r e)
+late (suc most) n v [] p w r e = omega (arith, position-of RUN-OUT p r e)
+late (suc most) n v (token ∷ rest) p w r e =
+    late-one n p (λ m. cutting most v (drop m (token ∷ rest)) (p + m)) w r
     (λ m. omega (arith, start-of most v (drop m (token ∷ rest)) (p + m)))
-    (λ m ls f. omega (arith, late most n v (drop m (token ∷ rest)) (p + m) ls r f))
+    (λ m u f. omega (arith, late most n v (drop m (token ∷ rest)) (p + m) u r f))
     (judged v (token ∷ rest)) e
 
 -- A stream with a boundary at j is refused at j or later.
-pub refused-behind : (v : Version) (s : List ℕ) (j : ℕ) (ks : List Kind) (r : Refusal) → standingAt v s j ≡ standsWith ks → walked v s ≡ Refused r → j ≤ r .position
+pub refused-behind : (v : Version) (s : List ℕ) (j : ℕ) (w : WalkState) (r : Refusal) → standingAt v s j ≡ standsWith w → walked v s ≡ Refused r → j ≤ r .position
 unfolding cutFrom
-refused-behind v s j ks r b e =
-    let c = standing-reached v s j ks b in
-    late (length (drop j s)) (countOf (cutFrom v s 1)) v (drop j s) j ks r (sym (reached (c .2) (countOf (cutFrom v s 1))) ∙ sym (walked-nesting v s) ∙ e)
+refused-behind v s j w r b e =
+    let c = standing-reached v s j w b in
+    late (length (drop j s)) (countOf (cutFrom v s 1)) v (drop j s) j w r (sym (reached (c .2) (countOf (cutFrom v s 1))) ∙ sym (walked-nesting v s) ∙ e)
 
 -- "the position moved by m - (j - i)", without a number below zero
 pub carried-by : (i j m p : ℕ) → i ≤ j → j ≤ p → carried i j m p + (j - i) ≡ p + m

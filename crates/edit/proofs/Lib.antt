@@ -8,3 +8,4 @@ pub mod EditIsACheck
 pub mod OneAnswer
 pub mod JoinedByPrefix
 pub mod BufferHoldsTheSplice
+pub mod Vectors

@@ -7,7 +7,7 @@ use native.Mathlib.Omega.{arith}
 use lib.ListN.{length, take, drop, length-append, length-drop, length-take, take-append-drop}
 use lib.Seq.{take-nil, take-take, take-at, length-take-le}
 use Rattle.paper.specs.Instruction.{judged}
-use Rattle.paper.specs.Walk.{Kind}
+use Rattle.paper.specs.Walk.{WalkState}
 use Rattle.paper.specs.declared.Version.{Version}
 use Rattle.paper.specs.declared.Class.{Class}
 use Rattle.paper.specs.declared.Judged.the-variants.{Good}
@@ -41,19 +41,19 @@ same-good v size class a b e j =
     ∙ good-alone size class v a (drop (suc size) b) j
 
 -- a walk that comes to q comes there wherever the first q tokens are the same
-pub same-comes : {v : Version} {s t : List ℕ} {p q : ℕ} {ks ls : List Kind} → take q s ≡ take q t → q ≤ length s → Comes v s p ks q ls → Comes v t p ks q ls
+pub same-comes : {v : Version} {s t : List ℕ} {p q : ℕ} {w u : WalkState} → take q s ≡ take q t → q ≤ length s → Comes v s p w q u → Comes v t p w q u
 same-comes e h stays = stays
 same-comes {v} {s} {t} {q = q} e h (passes {size = size} {class = class} {p = p} j g inside c) =
     let a = ahead c in
     passes (same-good v size class (drop p s) (drop p t) (same-part s t q p (suc size) e a) j) g
     (same-length s t q p e h (omega arith)) (same-comes e h c)
 
--- Two streams with the same first q tokens, both longer than q: a boundary q of the one is a boundary of the other, with the same blocks open.
-pub same-boundary : (v : Version) (s t : List ℕ) (q : ℕ) (ks : List Kind) → take q s ≡ take q t → q < length t →
-    standingAt v s q ≡ standsWith ks → standingAt v t q ≡ standsWith ks
+-- Two streams with the same first q tokens, both longer than q: a boundary q of the one is a boundary of the other, in the same state.
+pub same-boundary : (v : Version) (s t : List ℕ) (q : ℕ) (w : WalkState) → take q s ≡ take q t → q < length t →
+    standingAt v s q ≡ standsWith w → standingAt v t q ≡ standsWith w
 unfolding standingAt
-same-boundary v s t q ks e h b =
-    let f = standing-comes v s q ks b in
+same-boundary v s t q w e h b =
+    let f = standing-comes v s q w b in
     comes-standing h (same-comes e (omega arith) (f .0))
 
 -- how long a splice is, and its first tokens
@@ -64,10 +64,10 @@ module _ (old : List ℕ) (i j : ℕ) (run : List ℕ) (inside : i ≤ length ol
   pub splice-begins : take i (splice old i j run) ≡ take i old
   splice-begins = take-at (take i old) (run ++ drop j old) i (length-take-le i old inside)
 
--- The prefix is not walked a second time: the edit's first place is a boundary of the splice too, with the blocks that the old stream has open there.
-pub prefix-stands : (v : Version) (old : List ℕ) (i j : ℕ) (run : List ℕ) (ks : List Kind) → j < length old →
-    standingAt v old i ≡ standsWith ks → standingAt v (splice old i j run) i ≡ standsWith ks
-prefix-stands v old i j run ks h b =
-    let f = standing-comes v old i ks b in
-    same-boundary v old (splice old i j run) i ks (sym (splice-begins old i j run (omega arith)))
+-- The prefix is not walked a second time: the edit's first place is a boundary of the splice too, in the state that the old stream has there.
+pub prefix-stands : (v : Version) (old : List ℕ) (i j : ℕ) (run : List ℕ) (w : WalkState) → j < length old →
+    standingAt v old i ≡ standsWith w → standingAt v (splice old i j run) i ≡ standsWith w
+prefix-stands v old i j run w h b =
+    let f = standing-comes v old i w b in
+    same-boundary v old (splice old i j run) i w (sym (splice-begins old i j run (omega arith)))
     (omega (arith, splice-length old i j run (omega arith))) b

@@ -1,11 +1,11 @@
--- The test of the open blocks says yes exactly of equal ones.
+-- The test of the open blocks says yes exactly of equal ones, and so does that of the states.
 use mathlib.Core.Path.{_≡_, refl, ap, sym}
-use mathlib.Core.Bool.{true}
+use mathlib.Core.Bool.{Bool, true, false, Bool·beq}
 use mathlib.Core.List.{List, [], _∷_}
-use Rattle.paper.specs.Walk.{Kind, opened, pastElse}
+use Rattle.paper.specs.Walk.{Kind, opened, pastElse, WalkState}
 use Rattle.paper.specs.declared.Opener.{Opener}
 use Rattle.paper.specs.declared.Opener.the-variants.{If, Loop, Rep}
-use Rattle.edit.specs.Boundaries.{Standing, nowhere, standsWith, sameOpener, sameKind, sameBlocks, meets, isBoundary}
+use Rattle.edit.specs.Boundaries.{Standing, nowhere, standsWith, sameOpener, sameKind, sameBlocks, sameState, meets, isBoundary}
 use Rattle.paper.proofs.Bools.{apart, both}
 
 same-opener : (o p : Opener) → sameOpener o p ≡ true → o ≡ p
@@ -50,15 +50,34 @@ itself (k ∷ ks) = rw (kind-itself k) (itself ks)
 pub blocks-same : (ks ls : List Kind) → ks ≡ ls → sameBlocks ks ls ≡ true
 blocks-same ks ls e = rw (← e) (itself ks)
 
--- what meets, stands with the same blocks
-pub met : (x y : Standing) → meets x y ≡ true → (ks : List Kind) × (x ≡ standsWith ks) × (y ≡ standsWith ks)
+-- the mark of a PHASE
+pub same-mark : (a b : Bool) → Bool·beq a b ≡ true → a ≡ b
+same-mark true true e = refl
+same-mark true false e = apart (cc)
+same-mark false true e = apart (cc)
+same-mark false false e = refl
+
+pub mark-itself : (a : Bool) → Bool·beq a a ≡ true
+mark-itself true = refl
+mark-itself false = refl
+
+-- what meets, stands in the same state
+pub state-same : (w u : WalkState) → w .kinds ≡ u .kinds → w .phased ≡ u .phased → w ≡ u
+state-same w u e f = rw (e, f)
+
+same-state : (w u : WalkState) → sameState w u ≡ true → w ≡ u
+same-state w u e =
+    let b = both (sameBlocks (w .kinds) (u .kinds)) (Bool·beq (w .phased) (u .phased)) e in
+    state-same w u (same-blocks (w .kinds) (u .kinds) (b .0)) (same-mark (w .phased) (u .phased) (b .1))
+
+pub met : (x y : Standing) → meets x y ≡ true → (w : WalkState) × (x ≡ standsWith w) × (y ≡ standsWith w)
 met nowhere y e = apart (cc)
-met (standsWith ks) nowhere e = apart (cc)
-met (standsWith ks) (standsWith ls) e = (ks, refl, ap standsWith (sym (same-blocks ks ls e)))
+met (standsWith w) nowhere e = apart (cc)
+met (standsWith w) (standsWith u) e = (w, refl, ap standsWith (sym (same-state w u e)))
 
-pub meeting : (x y : Standing) (ks : List Kind) → x ≡ standsWith ks → y ≡ standsWith ks → meets x y ≡ true
-meeting x y ks e f = rw (e, f) (itself ks)
+pub meeting : (x y : Standing) (w : WalkState) → x ≡ standsWith w → y ≡ standsWith w → meets x y ≡ true
+meeting x y w e f = rw (e, f, itself (w .kinds)) (mark-itself (w .phased))
 
-pub boundary : (x : Standing) → isBoundary x ≡ true → (ks : List Kind) × (x ≡ standsWith ks)
+pub boundary : (x : Standing) → isBoundary x ≡ true → (w : WalkState) × (x ≡ standsWith w)
 boundary nowhere e = apart (cc)
-boundary (standsWith ks) e = (ks, refl)
+boundary (standsWith w) e = (w, refl)

@@ -35,14 +35,14 @@ module _ (v : Version) (old : List ℕ) where
     where
       this : (x : Standing) → standingAt v old q ≡ x → x ≡ nowhere
       this nowhere e = refl
-      this (standsWith ks) e = absurd (omega (arith, standing-reached v old q ks e .0))
+      this (standsWith w) e = absurd (omega (arith, standing-reached v old q w e .0))
 
   pub behind-last : (q : ℕ) → length old ≤ q → standingAt v old q ≡ nowhere
   behind-last q h = this (standingAt v old q) refl
     where
       this : (x : Standing) → standingAt v old q ≡ x → x ≡ nowhere
       this nowhere e = refl
-      this (standsWith ks) e = absurd (omega (arith, standing-reached v old q ks e .1))
+      this (standsWith w) e = absurd (omega (arith, standing-reached v old q w e .1))
 
   module _ (room i j : ℕ) (run : List ℕ) where
     pub no-first : standingAt v old i ≡ nowhere → afterVersion v room old i j run ≡ editRefused PLACE
@@ -78,8 +78,8 @@ module _ (v : Version) (old : List ℕ) where
       let o = b .order in
       let i = b .inside in
       rw (
-        reached-standing v old (first .at) (b .from .opened) (omega arith) (b .from .reaches),
-        reached-standing v old (last .at) (b .upto .opened) (b .inside) (b .upto .reaches),
+        reached-standing v old (first .at) (b .from .carries) (omega arith) (b .from .reaches),
+        reached-standing v old (last .at) (b .upto .carries) (b .inside) (b .upto .reaches),
         le-leb (first .at) (last .at) (b .order),
       )
 

@@ -7,7 +7,7 @@ use native.Mathlib.Omega.{arith}
 use lib.ListN.{length, drop}
 use borrow.Author.Tests.{lt-ltb}
 use Rattle.paper.specs.Instruction.{judged}
-use Rattle.paper.specs.Walk.{Kind, go, step}
+use Rattle.paper.specs.Walk.{WalkState, go, step}
 use Rattle.paper.specs.declared.Version.{Version}
 use Rattle.paper.specs.declared.Class.{Class}
 use Rattle.paper.specs.declared.Judged.the-variants.{Good}
@@ -19,7 +19,7 @@ use Rattle.walk.specs.declared.Step.{Step}
 use Rattle.walk.specs.Kinds.{kindsNumber, numbered, nextBy}
 use Rattle.walk.specs.Steps.{behindOf, goesOn}
 use Rattle.walk.specs.Stands.{Stands, stepAt, Comes}
-use Rattle.walk.proofs.OpenBlocks.{next-is}
+use Rattle.walk.proofs.OnStream.{next-said}
 use Rattle.walk.proofs.Comes.{comes-on, comes-not}
 use Rattle.editor.specs.Found.{foundBy}
 
@@ -28,44 +28,44 @@ abbrev pub Misses : Version → List ℕ → ℕ → Step → Type 0
 Misses v s t step = goesOn step (t + 1) ≡ false → standingAt v s t ≡ nowhere
 
 -- of two positions that a walk comes to, it comes from the first to the second
-between : {v : Version} {s : List ℕ} {a p t : ℕ} {ks ls ms : List Kind} → Leads v s a ks p ls → Leads v s a ks t ms → p ≤ t → Leads v s p ls t ms
+between : {v : Version} {s : List ℕ} {a p t : ℕ} {w u z : WalkState} → Leads v s a w p u → Leads v s a w t z → p ≤ t → Leads v s p u t z
 between stays c h = c
 between (passes j e l c) stays h = absurd (omega (arith, ahead c))
-between (passes {size = size} {ls = ls} j e l c) (passes {size = other} {ls = as-well} k f m d) h =
+between (passes {size = size} {u = u} j e l c) (passes {size = other} {u = as-well} k f m d) h =
     let same-size : other ≡ size = cc in
-    let same-blocks : as-well ≡ ls = cc in
-    between c (rw (same-size, same-blocks) at d) h
+    let same-state : as-well ≡ u = cc in
+    between c (rw (same-size, same-state) at d) h
 
 -- the instruction that it passes first
-record First (v : Version) (s : List ℕ) (p t : ℕ) (ks : List Kind) : Type 0 where
+record First (v : Version) (s : List ℕ) (p t : ℕ) (w : WalkState) : Type 0 where
   pub size : ℕ
   pub class : Class
-  pub next : List Kind
+  pub next : WalkState
   pub good : judged v (drop p s) ≡ Good size class
-  pub goes : step ks class ≡ go next
+  pub goes : step w class ≡ go next
   pub near : p + suc size ≤ t
 
-first-of : {v : Version} {s : List ℕ} {p t : ℕ} {ks ms : List Kind} → Leads v s p ks t ms → p < t → First v s p t ks
+first-of : {v : Version} {s : List ℕ} {p t : ℕ} {w z : WalkState} → Leads v s p w t z → p < t → First v s p t w
 first-of stays h = absurd (omega arith)
-first-of (passes {size = size} {class = class} {ls = ls} j e l c) h =
-    record { size = size; class = class; next = ls; good = j; goes = e; near = ahead c }
+first-of (passes {size = size} {class = class} {u = u} j e l c) h =
+    record { size = size; class = class; next = u; good = j; goes = e; near = ahead c }
 
 module _ (v : Version) (s : List ℕ) (state : State) (h : Stands v s state) (inside : state .at < length s) where
   -- where the walk stands is a boundary
-  pub stands-here : standingAt v s (state .at) ≡ standsWith (h .opened)
-  stands-here = reached-standing v s (state .at) (h .opened) inside (h .reaches)
+  pub stands-here : standingAt v s (state .at) ≡ standsWith (h .carries)
+  stands-here = reached-standing v s (state .at) (h .carries) inside (h .reaches)
 
   module _ (t : ℕ) (before : state .at < t) where
     -- a boundary ahead: the step goes on, and not past it
-    goes-to : (ms : List Kind) → standingAt v s t ≡ standsWith ms → goesOn (stepAt v s state) (t + 1) ≡ true
+    goes-to : (z : WalkState) → standingAt v s t ≡ standsWith z → goesOn (stepAt v s state) (t + 1) ≡ true
     unfolding stepAt
-    goes-to ms e =
-        let here = standing-comes v s (state .at) (h .opened) stands-here .0 in
-        let there = standing-comes v s t ms e .0 in
+    goes-to z e =
+        let here = standing-comes v s (state .at) (h .carries) stands-here .0 in
+        let there = standing-comes v s t z e .0 in
         let f = first-of (between here there (omega arith)) before in
-        let said : nextBy (state .kinds) (f .class) ≡ numbered (go (f .next)) =
-        ap (λ (k : ℕ). nextBy k (f .class)) (h .numbered) ∙ next-is (h .opened) (f .class) ∙ ap numbered (f .goes) in
-        rw (f .good, said) (lt-ltb (behindOf state (f .size) (f .class) (kindsNumber (f .next)) .at) (t + 1) (omega (arith, f .near)))
+        let said : nextBy (state .kinds) (state .phased) (f .class) ≡ numbered (go (f .next)) =
+        next-said v s state h (f .class) ∙ ap numbered (f .goes) in
+        rw (f .good, said) (lt-ltb (behindOf state (f .size) (f .class) (kindsNumber (f .next .kinds)) .at) (t + 1) (omega (arith, f .near)))
 
     -- so there is none where the step does not go on up to it
     pub none-ahead : Misses v s t (stepAt v s state)
@@ -73,7 +73,7 @@ module _ (v : Version) (s : List ℕ) (state : State) (h : Stands v s state) (in
       where
         this : (x : Standing) → standingAt v s t ≡ x → x ≡ nowhere
         this nowhere e = refl
-        this (standsWith ms) e = let on = goes-to ms e in let z : true ≡ false = sym on ∙ g in apart (cc)
+        this (standsWith z) e = let on = goes-to z e in let both : true ≡ false = sym on ∙ g in apart (cc)
 
 -- behind the last step of a walk up to a position: it stands there, or the position is no boundary
 pub found-is : (v : Version) (s : List ℕ) (t : ℕ) (step : Step) → Comes v s 0 step → goesOn step t ≡ false → Misses v s t step → (b : Bool) → goesOn step (t + 1) ≡ b →

@@ -5,7 +5,7 @@ use mathlib.Core.List.{List}
 use native.Mathlib.Nat.{zero-add}
 use native.Mathlib.Omega.{arith}
 use lib.ListN.{length, take, drop}
-use Rattle.paper.specs.Walk.{Kind, counts}
+use Rattle.paper.specs.Walk.{WalkState, counts}
 use Rattle.paper.specs.Stream.{cutFrom}
 use Rattle.paper.specs.declared.Version.{Version}
 use Rattle.paper.specs.declared.Class.{Class}
@@ -22,7 +22,7 @@ counts-on : (class : Class) (k n : ℕ) → counts class (k + n) ≡ counts clas
 counts-on class k n = omega (arith, counts-add class 0 (k + n), counts-add class 0 k)
 
 -- a walk passes as many instructions wherever the tokens up to its end are the same
-same-count : {v : Version} {s : List ℕ} (t : List ℕ) {p q : ℕ} {ks ls : List Kind} → take q s ≡ take q t → q ≤ length s → Comes v s p ks q ls →
+same-count : {v : Version} {s : List ℕ} (t : List ℕ) {p q : ℕ} {w u : WalkState} → take q s ≡ take q t → q ≤ length s → Comes v s p w q u →
     (k : ℕ) × (countOf (cutFrom v s p) ≡ k + countOf (cutFrom v s q)) × (countOf (cutFrom v t p) ≡ k + countOf (cutFrom v t q))
 unfolding countOf
 same-count {v} {s} t e h (stays {p = p}) = (0, sym (zero-add (countOf (cutFrom v s p))), sym (zero-add (countOf (cutFrom v t p))))
@@ -40,16 +40,17 @@ pub stands-spliced : (v : Version) (old : List ℕ) (j : ℕ) (run : List ℕ) (
     Stands v (splice old (state .at) j run) state
 stands-spliced v old j run state h order inside =
     let i = state .at in
-    let was = reached-standing v old i (h .opened) (omega arith) (h .reaches) in
-    let comes = standing-comes v old i (h .opened) was .0 in
+    let was = reached-standing v old i (h .carries) (omega arith) (h .reaches) in
+    let comes = standing-comes v old i (h .carries) was .0 in
     let same = sym (splice-begins old i j run (omega arith)) in
     let passed = same-count (splice old i j run) same (omega arith) comes in
     record {
-      opened = h .opened;
+      carries = h .carries;
       numbered = h .numbered;
+      marked = h .marked;
       few = h .few;
       within = omega (arith, splice-length old i j run (omega arith));
       counted = h .counted;
-      reaches = standing-reached v (splice old i j run) i (h .opened) (prefix-stands v old i j run (h .opened) inside was) .2;
+      reaches = standing-reached v (splice old i j run) i (h .carries) (prefix-stands v old i j run (h .carries) inside was) .2;
       counts = omega (arith, passed .1, passed .2, h .counts);
     }

@@ -123,8 +123,8 @@ fn answer_of(verdict: Verdict, tokens: usize) -> Edited
     }
 }
 
-// The walk of the splice from i on, where the old stream stands as `first`. At the run's end with the blocks of `last`, where it
-// stands at j, it is JOINED, and nothing more is read.
+// The walk of the splice from i on, where the old stream stands as `first`. At the run's end with the blocks and the mark of a PHASE
+// of `last`, where it stands at j, it is JOINED, and nothing more is read.
 fn walk_spliced(version: Version, old: &[u32], first: State, last: State, run: &[u32]) -> Edited
     requires { ⌜ Between version (now old) first last × (length (now old) ≤ mostTokens) × (newLength (length (now old)) (first .at) (last .at) (length (now run)) ≤ mostTokens) ⌝ }
     ensures { λ r. ⌜ r ≡ spliced version (now (old .entry)) (first .at) (last .at) (now (run .entry)) ⌝ }
@@ -140,7 +140,7 @@ fn walk_spliced(version: Version, old: &[u32], first: State, last: State, run: &
     };
     while walk::goes_on(step, length) {
         let state = step.state;
-        if (state.at == end) & (state.kinds == last.kinds) {
+        if (state.at == end) & ((state.kinds == last.kinds) & (state.phased == last.phased)) {
             return Edited::Joined(length);
         }
         step = step_spliced(version, old, i, j, run, state, &mut window);

@@ -70,8 +70,12 @@ stands-first v s h =
       counts = omega arith;
     }
 
--- the verdict is that of what is left
 module _ (v : Version) (s : List ℕ) (state : State) (h : Stands v s state) where
+  -- the step over the numbers is the walk's
+  pub next-said : (class : Class) → nextBy (state .kinds) (state .phased) class ≡ numbered (step (h .carries) class)
+  next-said class = rw (h .numbered, h .marked) (next-is (h .carries) class)
+
+  -- the verdict is that of what is left
   stands-verdict : walked v s ≡ nesting (countOf (cutFrom v s 1)) (cutFrom v s (state .at)) (h .carries)
   stands-verdict = walked-nesting v s ∙ reached (h .reaches) (countOf (cutFrom v s 1))
 
@@ -142,9 +146,6 @@ module _ (v : Version) (s : List ℕ) (state : State) (h : Stands v s state) (lt
           counts = counts-behind;
         }
 
-    next-said : nextBy (state .kinds) (state .phased) class ≡ numbered (step (h .carries) class)
-    next-said = rw (h .numbered, h .marked) (next-is (h .carries) class)
-
     comes-next : (x : Said) → step (h .carries) class ≡ x → Comes v s (state .at + 1) (onNextBy (numbered x) state size class)
     unfolding nesting
     comes-next (go w) f =
@@ -163,7 +164,7 @@ module _ (v : Version) (s : List ℕ) (state : State) (h : Stands v s state) (lt
 
   comes-judged : (x : Judged) → judged v (drop (state .at) s) ≡ x → Comes v s (state .at + 1) (onJudged x state)
   unfolding nesting
-  comes-judged (Good size class) e = rw (next-said size class e) (comes-next size class e (step (h .carries) class) refl)
+  comes-judged (Good size class) e = rw (next-said v s state h class) (comes-next size class e (step (h .carries) class) refl)
   comes-judged (unfit q) e =
       let near : q .position ≤ length (drop (state .at) s) - 1 = rw e at (judged-near v (drop (state .at) s)) in
       let at : wrapped (state .at + q .position) ≡ state .at + q .position = mod-eq-of-lt (omega (arith, near, length-drop (state .at) s)) in

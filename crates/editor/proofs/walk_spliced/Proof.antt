@@ -62,7 +62,7 @@ loop-holds c =
 
 returns : tie.Need-returns Inv-loop μ-loop
 returns c =
-    let t = c .before .before .before .before .before in
+    let t = c .before .before .before .before .before .before .before in
     let l = t .before .before in
     let s = start l in
     let g = s .args in
@@ -70,7 +70,7 @@ returns c =
 
 step-spliced-requires : tie.Need-step-spliced-requires Inv-loop μ-loop
 step-spliced-requires c κs =
-    let t = c .before .before .before .before .before .before in
+    let t = c .before .before .before .before .before .before .before .before in
     let b = start (t .before .before) .pre .0 in
     let h = stands t in (
       record {
@@ -86,11 +86,11 @@ step-spliced-requires c κs =
 
 -- and comes further, not past the run's end where the walks may meet
 turned : (c : tie.After-step-spliced Inv-loop μ-loop) →
-    let l = c .before .before .before .before .before .before .before .before .before in
+    let l = c .before .before .before .before .before .before .before .before .before .before .before in
     let g = start l .args in
     (leftTo (c .step-spliced .result) (whole l) < leftTo (l .loop .step) (whole l)) × Comes (g .version) (stream l) (g .first .at) (c .step-spliced .result)
 turned c =
-    let t = c .before .before .before .before .before .before .before in
+    let t = c .before .before .before .before .before .before .before .before .before in
     let l = t .before .before in
     let s = start l in
     let g = s .args in
@@ -104,10 +104,10 @@ turned c =
     (omega arith)
 
 unmet : (c : tie.After-step-spliced Inv-loop μ-loop) →
-    let g = start (c .before .before .before .before .before .before .before .before .before) .args in
+    let g = start (c .before .before .before .before .before .before .before .before .before .before .before) .args in
     Unmet (g .version) (g .old .now) (g .first) (g .last) (g .run .now) (c .step-spliced .result)
 unmet c =
-    let t = c .before .before .before .before .before .before .before in
+    let t = c .before .before .before .before .before .before .before .before .before in
     let l = t .before .before in
     let s = start l in
     let g = s .args in
