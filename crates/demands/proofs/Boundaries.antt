@@ -4,28 +4,25 @@ use mathlib.Core.Path.{_≡_, refl, sym, ap, _∙_}
 use mathlib.Core.Bool.{Bool, true, false, _||_}
 use mathlib.Core.List.{List, [], _∷_, _++_}
 use native.Mathlib.Omega.{arith}
-use lib.Dec.{eqb, ltb}
+use lib.Dec.{eqb}
 use lib.ListN.{length, drop, getD, length-append, length-drop}
 use borrow.Author.Tests.{eqb-true, eq-eqb}
-use Rattle.paper.specs.Notation.{pick, among}
+use Rattle.paper.specs.Notation.{among}
 use Rattle.paper.specs.Versions.{named}
 use Rattle.paper.specs.Instruction.{judged}
-use Rattle.paper.specs.Blocks.{Cut, then, mayStand, mostOpen}
-use Rattle.paper.specs.Walk.{Kind, opened, pastElse, inLoop, closes, elses, Next, go, bad, finish, step}
+use Rattle.paper.specs.Blocks.{Cut, then}
+use Rattle.paper.specs.Walk.{WalkState, begin, Next, go, bad, finish, step}
 use Rattle.paper.specs.Stream.{cutFrom, verdict}
 use Rattle.paper.specs.declared.Version.{Version}
 use Rattle.paper.specs.declared.Named.the-variants.{Known}
 use Rattle.paper.specs.declared.Class.{Class}
-use Rattle.paper.specs.declared.Class.the-variants.{One, Opens, Closes}
-use Rattle.paper.specs.declared.Reason.{Reason}
-use Rattle.paper.specs.declared.Reason.the-variants.{Block as BLOCK, Depth as DEPTH}
 use Rattle.paper.specs.declared.Judged.the-variants.{Good}
 use Rattle.paper.specs.declared.Verdict.the-variants.{Accepted}
 use Rattle.blocks.specs.Begins.{Lawful, Leads, nothing, first, endsStream}
 use Rattle.blocks.specs.Reach.{Reaches, here, past, openAfter}
 use Rattle.blocks.proofs.Cutting.{cut-at}
 use Rattle.blocks.proofs.Reach.{reaches-on, reaches-leads}
-use Rattle.blocks.proofs.Refused.{open-append, begins-none}
+use Rattle.blocks.proofs.Refused.{says, open-append, begins-none}
 use Rattle.cutting.specs.Cuttings.{joined, Chunks, last, next, Cutting, LawfulStream}
 use Rattle.paper.proofs.Bools.{apart}
 use Rattle.cutting.proofs.AcceptedIsACutting.{accepted-is-a-cutting}
@@ -52,7 +49,7 @@ same-size e = cc
 
 -- where the walk comes to, a chunk begins
 comes-among : {v : Version} {chunks : List (List ℕ)} {classes : List Class} → Chunks v chunks classes → (s : List ℕ) (at : ℕ) →
-    drop at s ≡ joined chunks → (p : ℕ) {ks ls : List Kind} → p < length s → Comes v s at ks p ls → among p (boundariesOf chunks at) ≡ true
+    drop at s ≡ joined chunks → (p : ℕ) {w u : WalkState} → p < length s → Comes v s at w p u → among p (boundariesOf chunks at) ≡ true
 comes-among (last {first} {rest} alone) s at h p l stays = among-first at []
 comes-among {v} (last {first} {rest} alone) s at h p l (passes j e i c) =
     let size = same-size (sym j ∙ judged-here v first rest [] alone s at h) in
@@ -64,24 +61,8 @@ comes-among {v} (next {first} {rest} {class} {chunks} alone other later) s at h 
     (comes-among later s (at + suc (length rest)) (behind v first rest (joined chunks) alone s at h) p l (rw size at c))
 
 -- the walk finishes at END alone
-finish-goes : (test : Bool) (ks : List Kind) (x : Next) {A : Type 0} → (x ≡ finish → A) → pick test (go ks) x ≡ finish → A
-finish-goes true ks x none e = apart (cc)
-finish-goes false ks x none e = none e
-
-finish-bad : (reason : Reason) {A : Type 0} → bad reason ≡ finish → A
-finish-bad reason e = apart (cc)
-
-finish-closes : (test : Bool) → pick test finish (bad BLOCK) ≡ finish → test ≡ true
-finish-closes true e = refl
-finish-closes false e = apart (cc)
-
-finish-end : (class : Class) (ks : List Kind) → step ks class ≡ finish → endsStream class ≡ true
-finish-end (One s) ks e = finish-goes (mayStand (length ks) (inLoop ks) s) ks (bad BLOCK) (finish-bad BLOCK) e
-finish-end (Opens o) ks e = finish-goes (ltb (length ks) mostOpen) (opened o ∷ ks) (bad DEPTH) (finish-bad DEPTH) e
-finish-end (Closes c) [] e = finish-closes (endsStream (Closes c)) e
-finish-end (Closes c) (k ∷ ks) e =
-    finish-goes (elses c k) (pastElse ∷ ks) (pick (closes c k) (go ks) (bad BLOCK))
-    (finish-goes (closes c k) ks (bad BLOCK) (finish-bad BLOCK)) e
+finish-end : (class : Class) (w : WalkState) → step w class ≡ finish → endsStream class ≡ true
+finish-end class w e = rw e at (says class w)
 
 -- one class more
 leads-more : {cs : List Class} {a b : Cut} {c : Class} {p : ℕ} → Leads cs a (then c p b) → Leads (cs ++ c ∷ []) a b
@@ -93,38 +74,38 @@ module _ (v : Version) (s : List ℕ) (lawful : Lawful (cutFrom v s 1)) (p : ℕ
   abbrev Stands : Type 0
   Stands = isBoundary (standingAt v s p) ≡ true
 
-  module _ (at : ℕ) (ks : List Kind) (reached : Reaches (cutFrom v s 1) [] (cutFrom v s at) ks) (l : at < length s) where
+  module _ (at : ℕ) (w : WalkState) (reached : Reaches (cutFrom v s 1) begin (cutFrom v s at) w) (l : at < length s) where
     stands-here : p ≡ at → Stands
-    stands-here e = rw (e, reached-standing v s at ks l reached)
+    stands-here e = rw (e, reached-standing v s at w l reached)
 
     module _ (size : ℕ) (class : Class) (good : judged v (drop at s) ≡ Good size class) (other : endsStream class ≡ false) where
       cut-here : cutFrom v s at ≡ then class at (cutFrom v s (at + suc size))
       cut-here = rw (cut-at v s at l, good)
 
-      stands-on : (x : Next) → step ks class ≡ x →
-          ((ls : List Kind) → Reaches (cutFrom v s 1) [] (cutFrom v s (at + suc size)) ls → Stands) → Stands
+      stands-on : (x : Next) → step w class ≡ x →
+          ((u : WalkState) → Reaches (cutFrom v s 1) begin (cutFrom v s (at + suc size)) u → Stands) → Stands
       unfolding openAfter
-      stands-on (go ls) e later = later ls (reaches-on reached (rw cut-here (past e here)))
+      stands-on (go u) e later = later u (reaches-on reached (rw cut-here (past e here)))
       stands-on (bad reason) e later =
           let r = reaches-leads (rw cut-here at reached) in
           let cs = r .0 in
-          let refused : openAfter [] (cs ++ class ∷ []) ≡ bad reason = open-append cs (class ∷ []) [] ks (r .2) ∙ rw e in
+          let refused : openAfter begin (cs ++ class ∷ []) ≡ bad reason = open-append cs (class ∷ []) begin w (r .2) ∙ rw e in
           absurd (begins-none (cs ++ class ∷ []) reason refused (cutFrom v s 1, cutFrom v s (at + suc size), leads-more (r .1), lawful))
-      stands-on finish e later = let both : _≡_ {A = Bool} true false = sym (finish-end class ks e) ∙ other in apart (cc)
+      stands-on finish e later = let both : _≡_ {A = Bool} true false = sym (finish-end class w e) ∙ other in apart (cc)
 
   among-stands : {chunks : List (List ℕ)} {classes : List Class} → Chunks v chunks classes → (at : ℕ) → drop at s ≡ joined chunks →
-      (ks : List Kind) → Reaches (cutFrom v s 1) [] (cutFrom v s at) ks → (test : Bool) → eqb p at ≡ test → among p (boundariesOf chunks at) ≡ true →
+      (w : WalkState) → Reaches (cutFrom v s 1) begin (cutFrom v s at) w → (test : Bool) → eqb p at ≡ test → among p (boundariesOf chunks at) ≡ true →
       Stands
-  among-stands (last {first} {rest} alone) at h ks reached true t a =
-      stands-here at ks reached (inside v first rest [] alone s at h) (eqb-true p at t)
-  among-stands (last alone) at h ks reached false t a = let none : _≡_ {A = Bool} false true = rw t at a in apart (cc)
-  among-stands (next {first} {rest} {class} {chunks} alone other later) at h ks reached true t a =
-      stands-here at ks reached (inside v first rest (joined chunks) alone s at h) (eqb-true p at t)
-  among-stands (next {first} {rest} {class} {chunks} alone other later) at h ks reached false t a =
+  among-stands (last {first} {rest} alone) at h w reached true t a =
+      stands-here at w reached (inside v first rest [] alone s at h) (eqb-true p at t)
+  among-stands (last alone) at h w reached false t a = let none : _≡_ {A = Bool} false true = rw t at a in apart (cc)
+  among-stands (next {first} {rest} {class} {chunks} alone other later) at h w reached true t a =
+      stands-here at w reached (inside v first rest (joined chunks) alone s at h) (eqb-true p at t)
+  among-stands (next {first} {rest} {class} {chunks} alone other later) at h w reached false t a =
       let on = at + suc (length rest) in
-      stands-on at ks reached (inside v first rest (joined chunks) alone s at h) (length rest) class
-      (judged-here v first rest (joined chunks) alone s at h) other (step ks class) refl
-      (λ ls r. among-stands later on (behind v first rest (joined chunks) alone s at h) ls r (eqb p on) refl (rw t at a))
+      stands-on at w reached (inside v first rest (joined chunks) alone s at h) (length rest) class
+      (judged-here v first rest (joined chunks) alone s at h) other (step w class) refl
+      (λ u r. among-stands later on (behind v first rest (joined chunks) alone s at h) u r (eqb p on) refl (rw t at a))
 
 -- a token names one version
 one-version : (token : ℕ) (v w : Version) → named token ≡ Known v → named token ≡ Known w → v ≡ w
@@ -154,7 +135,7 @@ module _ (stream : List ℕ) (n : ℕ) (v : Version) (accept : verdict stream �
       stands-at : ReadPlace stream p → isBoundary (standingAt v stream p) ≡ true
       stands-at b =
           let places : placesRead (b .given) ≡ boundariesOf (lawful .chunks) 1 = ap placesRead (read .oneReading (b .given) (b .isRead)) ∙ read .areBoundaries in
-          among-stands v stream derived p (cut .0) 1 (sym (cut .1)) [] here (eqb p 1) refl (rw places at (b .isPlace))
+          among-stands v stream derived p (cut .0) 1 (sym (cut .1)) begin here (eqb p 1) refl (rw places at (b .isPlace))
 
       boundary-at : isBoundary (standingAt v stream p) ≡ true → ReadPlace stream p
       boundary-at e =

@@ -10,7 +10,7 @@ use Rattle.paper.specs.Numbers.{numberOf, refusal}
 use Rattle.paper.specs.Versions.{named}
 use Rattle.paper.specs.Instruction.{judged}
 use Rattle.paper.specs.Blocks.{then, mostOpen}
-use Rattle.paper.specs.Walk.{Kind, go, bad, step}
+use Rattle.paper.specs.Walk.{WalkState, begin, go, bad, step}
 use Rattle.paper.specs.Stream.{cutFrom, lengthLaid, verdict}
 use Rattle.paper.specs.declared.Version.{Version}
 use Rattle.paper.specs.declared.Named.the-variants.{Known}
@@ -47,25 +47,25 @@ row-leads : {v : Version} {s : List ℕ} {p q : ℕ} {cs : List Class} → GoodR
 row-leads standing = nothing
 row-leads {v} {s} (next {p = p} {size = size} {class = class} j r) = rw (cut-good v s p size class j) (first (row-leads r))
 
--- what a walk passes is a row, which leaves open the blocks that the walk has open
-pub record Passed (v : Version) (s : List ℕ) (p : ℕ) (ks : List Kind) (q : ℕ) (ls : List Kind) : Type 0 where
+-- what a walk passes is a row, which leaves the state that the walk has
+pub record Passed (v : Version) (s : List ℕ) (p : ℕ) (w : WalkState) (q : ℕ) (u : WalkState) : Type 0 where
   pub classes : List Class
   pub row : GoodRow v s p classes q
-  pub leaves : openAfter ks classes ≡ go ls
-  pub counted : length ls + blocksClosed classes ≡ length ks + blocksOpened classes
-  pub few : length ks ≤ mostOpen → length ls ≤ mostOpen
+  pub leaves : openAfter w classes ≡ go u
+  pub counted : length (u .kinds) + blocksClosed classes ≡ length (w .kinds) + blocksOpened classes
+  pub few : length (w .kinds) ≤ mostOpen → length (u .kinds) ≤ mostOpen
 
-comes-row : {v : Version} {s : List ℕ} {p q : ℕ} {ks ls : List Kind} → Comes v s p ks q ls → Passed v s p ks q ls
+comes-row : {v : Version} {s : List ℕ} {p q : ℕ} {w u : WalkState} → Comes v s p w q u → Passed v s p w q u
 unfolding openAfter
 comes-row stays = record { classes = []; row = standing; leaves = refl; counted = refl; few = λ h. h }
-comes-row (passes {class = class} {ks = ks} {ls = ls} {ms = ms} j e h c) =
+comes-row (passes {class = class} {w = w} {u = u} {z = z} j e h c) =
     let r = comes-row c in
     record {
       classes = class ∷ r .classes;
       row = next j (r .row);
       leaves = rw e (r .leaves);
-      counted = step-count class ks ls (length ms) (r .classes) e (r .counted);
-      few = λ l. r .few (step-few ks ls class l e);
+      counted = step-count class w u (length (z .kinds)) (r .classes) e (r .counted);
+      few = λ l. r .few (step-few w u class l e);
     }
 
 -- the reason of a nesting, and whether it is at an opener
@@ -104,18 +104,18 @@ module _ (s : List ℕ) (p : ℕ) (opener : Bool) (answer : verdict s ≡ Refuse
   not-ended true class e = absurd (never-tail opener (sym e))
   not-ended false class e = refl
 
-  module _ (ks : List Kind) (size : ℕ) (class : Class) (came : Comes v s 1 [] p ks) (good : judged v (drop p s) ≡ Good size class)
-      (refused : step ks class ≡ bad (reasonOf opener)) where
-    passed : Passed v s 1 [] p ks
+  module _ (w : WalkState) (size : ℕ) (class : Class) (came : Comes v s 1 begin p w) (good : judged v (drop p s) ≡ Good size class)
+      (refused : step w class ≡ bad (reasonOf opener)) where
+    passed : Passed v s 1 begin p w
     passed = comes-row came
 
     none-begins : Begins (passed .classes ++ class ∷ []) → ⊥
     unfolding openAfter
     none-begins =
-        begins-none (passed .classes ++ class ∷ []) (reasonOf opener) (open-append (passed .classes) (class ∷ []) [] ks (passed .leaves) ∙ rw refused)
+        begins-none (passed .classes ++ class ∷ []) (reasonOf opener) (open-append (passed .classes) (class ∷ []) begin w (passed .leaves) ∙ rw refused)
 
     begun : Begins (passed .classes)
-    begun = begins-open (passed .classes) ks (passed .leaves)
+    begun = begins-open (passed .classes) w (passed .leaves)
 
     no-end : ended (passed .classes) ≡ false
     no-end =
@@ -137,7 +137,7 @@ module _ (s : List ℕ) (p : ℕ) (opener : Bool) (answer : verdict s ≡ Refuse
       size = size;
       class = class;
       isGood = good;
-      isOpener = same-opener (opens class) opener (sym (nesting-by class) ∙ sym (step-reason class ks (reasonOf opener) refused));
+      isOpener = same-opener (opens class) opener (sym (nesting-by class) ∙ sym (step-reason class w (reasonOf opener) refused));
       beginNone = none-begins;
     }
 
@@ -146,25 +146,25 @@ module _ (s : List ℕ) (p : ℕ) (opener : Bool) (answer : verdict s ≡ Refuse
     twenty-four isDepth =
         let reason : reasonOf opener ≡ DEPTH = ap reasonOf isDepth in
         let most = passed .few (omega arith) in
-        let least = deep-enough class ks (refused ∙ ap bad reason) in
+        let least = deep-enough class w (refused ∙ ap bad reason) in
         omega (arith, passed .counted)
 
   abbrev Broken : Type 0
   Broken = (b : BreaksAt s p opener) × (opener ≡ true → blocksOpened (b .before) ≡ mostOpen + blocksClosed (b .before))
 
-  by-walk : {r : Refusal} → Refusing v s 1 [] r → r ≡ refusal (reasonOf opener) p → Broken
+  by-walk : {r : Refusal} → Refusing v s 1 begin r → r ≡ refusal (reasonOf opener) p → Broken
   by-walk (runs-out c) e = absurd (other opener RUN-OUT (omega arith) (ap (λ (x : Refusal). x .reason) e))
   by-walk (unlawful {q = q} {r = x} c l j) e =
       let few = judged-reason (λ (y : Reason). numberOf y < 9) (omega arith) (omega arith) (omega arith) (omega arith) (omega arith) (omega arith)
       v (drop q s) x j in
       absurd (other opener (x .reason) few (ap (λ (y : Refusal). y .reason) e))
-  by-walk (breaks {q = q} {size = size} {class = class} {ls = ls} {reason = reason} c j st) e =
+  by-walk (breaks {q = q} {size = size} {class = class} {u = u} {reason = reason} c j st) e =
       let at : q ≡ p = ap (λ (x : Refusal). x .position) e in
       let why : reason ≡ reasonOf opener = ap (λ (x : Refusal). x .reason) e in
-      let came : Comes v s 1 [] p ls = rw at at c in
+      let came : Comes v s 1 begin p u = rw at at c in
       let good : judged v (drop p s) ≡ Good size class = rw at at j in
-      let refused : step ls class ≡ bad (reasonOf opener) = st ∙ ap bad why in
-      (broken ls size class came good refused, twenty-four ls size class came good refused)
+      let refused : step u class ≡ bad (reasonOf opener) = st ∙ ap bad why in
+      (broken u size class came good refused, twenty-four u size class came good refused)
   by-walk (trails l) e = absurd (never-tail opener (sym (ap (λ (x : Refusal). x .reason) e)))
 
 -- and where a nesting breaks the stream is refused

@@ -9,7 +9,7 @@ use lib.ListN.{length, drop, length-drop}
 use Rattle.paper.specs.Notation.{among}
 use Rattle.paper.specs.Numbers.{numberOf}
 use Rattle.paper.specs.Instruction.{judged}
-use Rattle.paper.specs.Walk.{Kind}
+use Rattle.paper.specs.Walk.{WalkState}
 use Rattle.paper.specs.Stream.{verdict}
 use Rattle.paper.specs.declared.Version.{Version}
 use Rattle.paper.specs.declared.Reason.{Reason}
@@ -81,13 +81,13 @@ nesting-fits (Opens o) tokens position h = at-token checkNumbers tokens 10 posit
 nesting-fits (Closes c) tokens position h = at-token checkNumbers tokens 9 position h refl refl
 
 -- a walk
-walk-fits : {v : Version} {s : List ℕ} {p : ℕ} {ks : List Kind} {r : Refusal} → Refusing v s p ks r → Fits checkNumbers (length s) r
+walk-fits : {v : Version} {s : List ℕ} {p : ℕ} {w : WalkState} {r : Refusal} → Refusing v s p w r → Fits checkNumbers (length s) r
 walk-fits {s = s} (runs-out c) = at-token checkNumbers (length s) 5 (length s) (omega arith) refl refl
 walk-fits {v} {s} (unlawful {q = q} {r = r} c l j) =
     widened readNumbers (9 ∷ 10 ∷ 11 ∷ [])
     (instruction-fits v (drop q s) r j (length s) (q + r .position) (refused-inside v s q r (omega arith) j))
-walk-fits {v} {s} (breaks {q = q} {size = size} {class = class} {ls = ls} {reason = reason} c j st) =
-    rw (step-reason class ls reason st) (nesting-fits class (length s) q (omega (arith, good-inside size class v s q j)))
+walk-fits {v} {s} (breaks {q = q} {size = size} {class = class} {u = u} {reason = reason} c j st) =
+    rw (step-reason class u reason st) (nesting-fits class (length s) q (omega (arith, good-inside size class v s q j)))
 walk-fits {s = s} (trails {q = q} l) = at-token checkNumbers (length s) 11 q (omega arith) refl refl
 
 -- a stream

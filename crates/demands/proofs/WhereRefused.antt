@@ -11,7 +11,7 @@ use Rattle.paper.specs.Numbers.{refusal}
 use Rattle.paper.specs.Versions.{named}
 use Rattle.paper.specs.Instruction.{judged}
 use Rattle.paper.specs.Blocks.{Cut, then}
-use Rattle.paper.specs.Walk.{Kind, Next, go, bad, finish, step, onNext, atEnd}
+use Rattle.paper.specs.Walk.{WalkState, begin, Next, go, bad, finish, step, onNext, atEnd}
 use Rattle.paper.specs.Stream.{cutOne, cutFrom, walked, lengthLaid, verdict}
 use Rattle.paper.specs.declared.Version.{Version}
 use Rattle.paper.specs.declared.Named.{Named}
@@ -33,81 +33,81 @@ use Rattle.paper.proofs.Bools.{apart}
 use Rattle.paper.proofs.StreamVerdict.{laid-two, verdict-length, verdict-version, verdict-walked}
 use Rattle.edit.proofs.Standing.{Comes, stays, passes}
 
--- a walk at p, with the blocks ks open, is refused: there is no token where it comes to; the instruction there is refused by itself; the
+-- a walk at p, in the state w, is refused: there is no token where it comes to; the instruction there is refused by itself; the
 -- blocks that are open there do not let it stand; or it is the END that finishes the stream, and tokens follow
-pub data Refusing (v : Version) (s : List ℕ) (p : ℕ) (ks : List Kind) : Refusal → Type 0 where
-  runs-out : {ls : List Kind} → Comes v s p ks (length s) ls → Refusing v s p ks (refusal RUN-OUT (length s))
-  unlawful : {q : ℕ} {ls : List Kind} {r : Refusal} → Comes v s p ks q ls → q < length s → judged v (drop q s) ≡ Unlawful r →
-      Refusing v s p ks (refusal (r .reason) (q + r .position))
-  breaks : {q size : ℕ} {class : Class} {ls : List Kind} {reason : Reason} → Comes v s p ks q ls → judged v (drop q s) ≡ Good size class →
-      step ls class ≡ bad reason → Refusing v s p ks (refusal reason q)
-  trails : {q : ℕ} → q < length s → Refusing v s p ks (refusal TAIL q)
+pub data Refusing (v : Version) (s : List ℕ) (p : ℕ) (w : WalkState) : Refusal → Type 0 where
+  runs-out : {u : WalkState} → Comes v s p w (length s) u → Refusing v s p w (refusal RUN-OUT (length s))
+  unlawful : {q : ℕ} {u : WalkState} {r : Refusal} → Comes v s p w q u → q < length s → judged v (drop q s) ≡ Unlawful r →
+      Refusing v s p w (refusal (r .reason) (q + r .position))
+  breaks : {q size : ℕ} {class : Class} {u : WalkState} {reason : Reason} → Comes v s p w q u → judged v (drop q s) ≡ Good size class →
+      step u class ≡ bad reason → Refusing v s p w (refusal reason q)
+  trails : {q : ℕ} → q < length s → Refusing v s p w (refusal TAIL q)
 
 -- a refusal further on is one from here on
-further : {v : Version} {s : List ℕ} {p size : ℕ} {class : Class} {ks ls : List Kind} {r : Refusal} → judged v (drop p s) ≡ Good size class →
-    step ks class ≡ go ls → p < length s → Refusing v s (p + suc size) ls r → Refusing v s p ks r
+further : {v : Version} {s : List ℕ} {p size : ℕ} {class : Class} {w u : WalkState} {r : Refusal} → judged v (drop p s) ≡ Good size class →
+    step w class ≡ go u → p < length s → Refusing v s (p + suc size) u r → Refusing v s p w r
 further j e h (runs-out c) = runs-out (passes j e h c)
 further j e h (unlawful c l k) = unlawful (passes j e h c) l k
 further j e h (breaks c k b) = breaks (passes j e h c) k b
 further j e h (trails l) = trails l
 
 module _ (v : Version) (s : List ℕ) (r : Refusal) where
-  same : (p : ℕ) (ks : List Kind) (x : Refusal) → Refused x ≡ Refused r → Refusing v s p ks x → Refusing v s p ks r
-  same p ks x e h = let f : x ≡ r = cc in rw f at h
+  same : (p : ℕ) (w : WalkState) (x : Refusal) → Refused x ≡ Refused r → Refusing v s p w x → Refusing v s p w r
+  same p w x e h = let f : x ≡ r = cc in rw f at h
 
-  out-of-tokens : (n p : ℕ) (ks : List Kind) → p ≡ length s → nesting n (cutFrom v s p) ks ≡ Refused r → Refusing v s p ks r
+  out-of-tokens : (n p : ℕ) (w : WalkState) → p ≡ length s → nesting n (cutFrom v s p) w ≡ Refused r → Refusing v s p w r
   unfolding nesting
-  out-of-tokens n p ks at e =
-      same p ks (refusal RUN-OUT (length s)) (sym (rw (at, cut-none v s (length s) (omega arith))) ∙ e) (runs-out {ls = ks} (rw at stays))
+  out-of-tokens n p w at e =
+      same p w (refusal RUN-OUT (length s)) (sym (rw (at, cut-none v s (length s) (omega arith))) ∙ e) (runs-out {u = w} (rw at stays))
 
   at-end : (judgement : Judged) (n q : ℕ) (rest : ℕ → Cut) → atEnd n (cutOne judgement q rest) ≡ Refused r → Refused (refusal TAIL q) ≡ Refused r
   at-end (Good size class) n q rest e = e
   at-end (Unlawful x) n q rest e = e
 
-  behind-end : (n p q : ℕ) (ks : List Kind) → (none : Bool) → leb (length s) q ≡ none → atEnd n (cutFrom v s q) ≡ Refused r → Refusing v s p ks r
-  behind-end n p q ks true l e =
+  behind-end : (n p q : ℕ) (w : WalkState) → (none : Bool) → leb (length s) q ≡ none → atEnd n (cutFrom v s q) ≡ Refused r → Refusing v s p w r
+  behind-end n p q w true l e =
       let yes-to : Accepted n ≡ Refused r = rw (cut-none v s q (leb-true (length s) q l)) at e in
       apart (cc)
-  behind-end n p q ks false l e =
+  behind-end n p q w false l e =
       let inside = leb-false (length s) q l in
-      same p ks (refusal TAIL q) (at-end (judged v (drop q s)) n q (λ m. cutFrom v s (q + m)) (rw (cut-at v s q inside) at e)) (trails inside)
+      same p w (refusal TAIL q) (at-end (judged v (drop q s)) n q (λ m. cutFrom v s (q + m)) (rw (cut-at v s q inside) at e)) (trails inside)
 
-  module _ (n p : ℕ) (ks : List Kind) (inside : p < length s)
-      (later : (m size : ℕ) (ls : List Kind) → p + suc size ≤ length s → nesting m (cutFrom v s (p + suc size)) ls ≡ Refused r → Refusing v s (p + suc size) ls r) where
-    by-step : (size : ℕ) (class : Class) → judged v (drop p s) ≡ Good size class → (x : Next) → step ks class ≡ x →
-        onNext x n p (cutFrom v s (p + suc size)) (λ next. nesting n (cutFrom v s (p + suc size)) next) ≡ Refused r → Refusing v s p ks r
-    by-step size class j (go ls) st e = further j st inside (later n size ls (good-inside size class v s p j) e)
-    by-step size class j (bad reason) st e = same p ks (refusal reason p) e (breaks stays j st)
-    by-step size class j finish st e = behind-end n p (p + suc size) ks (leb (length s) (p + suc size)) refl e
+  module _ (n p : ℕ) (w : WalkState) (inside : p < length s)
+      (later : (m size : ℕ) (u : WalkState) → p + suc size ≤ length s → nesting m (cutFrom v s (p + suc size)) u ≡ Refused r → Refusing v s (p + suc size) u r) where
+    by-step : (size : ℕ) (class : Class) → judged v (drop p s) ≡ Good size class → (x : Next) → step w class ≡ x →
+        onNext x n p (cutFrom v s (p + suc size)) (λ next. nesting n (cutFrom v s (p + suc size)) next) ≡ Refused r → Refusing v s p w r
+    by-step size class j (go u) st e = further j st inside (later n size u (good-inside size class v s p j) e)
+    by-step size class j (bad reason) st e = same p w (refusal reason p) e (breaks stays j st)
+    by-step size class j finish st e = behind-end n p (p + suc size) w (leb (length s) (p + suc size)) refl e
 
-    by-judged : (judgement : Judged) → judged v (drop p s) ≡ judgement → nesting n (cutOne judgement p (λ m. cutFrom v s (p + m))) ks ≡ Refused r →
-        Refusing v s p ks r
+    by-judged : (judgement : Judged) → judged v (drop p s) ≡ judgement → nesting n (cutOne judgement p (λ m. cutFrom v s (p + m))) w ≡ Refused r →
+        Refusing v s p w r
     unfolding nesting
-    by-judged (Good size class) j e = by-step size class j (step ks class) refl e
-    by-judged (Unlawful x) j e = same p ks (refusal (x .reason) (p + x .position)) e (unlawful stays inside j)
+    by-judged (Good size class) j e = by-step size class j (step w class) refl e
+    by-judged (Unlawful x) j e = same p w (refusal (x .reason) (p + x .position)) e (unlawful stays inside j)
 
   -- the first number bounds how many tokens are left
-  walk-refused : (most n p : ℕ) (ks : List Kind) → p ≤ length s → length s ≤ p + most → nesting n (cutFrom v s p) ks ≡ Refused r → Refusing v s p ks r
-  walk-refused zero n p ks h l e = out-of-tokens n p ks (omega arith) e
-  walk-refused (suc most) n p ks h l e =
-      this (leb (length s) p) refl (λ m size ls k f. walk-refused most m (p + suc size) ls k (omega arith) f)
+  walk-refused : (most n p : ℕ) (w : WalkState) → p ≤ length s → length s ≤ p + most → nesting n (cutFrom v s p) w ≡ Refused r → Refusing v s p w r
+  walk-refused zero n p w h l e = out-of-tokens n p w (omega arith) e
+  walk-refused (suc most) n p w h l e =
+      this (leb (length s) p) refl (λ m size u k f. walk-refused most m (p + suc size) u k (omega arith) f)
     where
       this : (none : Bool) → leb (length s) p ≡ none →
-          ((m size : ℕ) (ls : List Kind) → p + suc size ≤ length s → nesting m (cutFrom v s (p + suc size)) ls ≡ Refused r → Refusing v s (p + suc size) ls r) →
-          Refusing v s p ks r
-      this true t later = out-of-tokens n p ks (omega (arith, leb-true (length s) p t)) e
+          ((m size : ℕ) (u : WalkState) → p + suc size ≤ length s → nesting m (cutFrom v s (p + suc size)) u ≡ Refused r → Refusing v s (p + suc size) u r) →
+          Refusing v s p w r
+      this true t later = out-of-tokens n p w (omega (arith, leb-true (length s) p t)) e
       this false t later =
           let inside = leb-false (length s) p t in
-          by-judged n p ks inside later (judged v (drop p s)) refl (rw (cut-at v s p inside) at e)
+          by-judged n p w inside later (judged v (drop p s)) refl (rw (cut-at v s p inside) at e)
 
-  walked-refused : 1 ≤ length s → walked v s ≡ Refused r → Refusing v s 1 [] r
-  walked-refused h e = walk-refused (length s) (countOf (cutFrom v s 1)) 1 [] h (omega arith) (sym (walked-nesting v s) ∙ e)
+  walked-refused : 1 ≤ length s → walked v s ≡ Refused r → Refusing v s 1 begin r
+  walked-refused h e = walk-refused (length s) (countOf (cutFrom v s 1)) 1 begin h (omega arith) (sym (walked-nesting v s) ∙ e)
 
 -- a refused stream
 pub data StreamRefused (s : List ℕ) (r : Refusal) : Type 0 where
   for-length : refusal LENGTH 0 ≡ r → StreamRefused s r
   for-version : refusal VERSION 0 ≡ r → StreamRefused s r
-  in-walk : (v : Version) → lengthLaid (length s) ≡ true → named (getD s 0 0) ≡ Known v → Refusing v s 1 [] r → StreamRefused s r
+  in-walk : (v : Version) → lengthLaid (length s) ≡ true → named (getD s 0 0) ≡ Known v → Refusing v s 1 begin r → StreamRefused s r
 
 module _ (s : List ℕ) (r : Refusal) (e : verdict s ≡ Refused r) where
   by-version : (name : Named) → named (getD s 0 0) ≡ name → lengthLaid (length s) ≡ true → StreamRefused s r
