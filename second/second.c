@@ -5,7 +5,8 @@
 
 /* ---- Versions --------------------------------------------------------- */
 
-enum version { V2, V3, P2, P3, VERSIONS, NO_VERSION = VERSIONS };
+/* The four of document 01, then the five of request Q-4, called the first. */
+enum version { V2, V3, P2, P3, V1, P11, P12, P13, P14, VERSIONS, NO_VERSION = VERSIONS };
 
 static enum version version_of(uint32_t token)
 {
@@ -14,8 +15,19 @@ static enum version version_of(uint32_t token)
     case 0xFFFE0300: return V3;
     case 0xFFFF0200: return P2;
     case 0xFFFF0300: return P3;
+    case 0xFFFE0101: return V1;
+    case 0xFFFF0101: return P11;
+    case 0xFFFF0102: return P12;
+    case 0xFFFF0103: return P13;
+    case 0xFFFF0104: return P14;
     default: return NO_VERSION;
     }
+}
+
+/* The first versions state no size: the opcode tells how many tokens follow. */
+static bool is_first(enum version version)
+{
+    return version >= V1;
 }
 
 static bool is_version_3(enum version version)
@@ -34,6 +46,9 @@ enum place {
     PREDICATE_D, /* SETP */
     ADDRESS_D,   /* MOVA */
     KILL_D,      /* TEXKILL */
+    MOVED_D,     /* MOV in the first versions */
+    TEXTURE_D,   /* texture instructions of the first versions */
+    TEMPORARY_D, /* the same in ps_1_4 */
     DECLARED_D,  /* DCL */
     FREE_S,      /* a source without a rule of its own */
     LABEL_S,     /* CALL, LABEL, CALLNZ's first */
@@ -42,6 +57,11 @@ enum place {
     INT_S,       /* LOOP's second, REP */
     PREDICATE_S, /* BREAKP */
     SAMPLER_S,   /* second source of TEX, TEXLDL, TEXLDD */
+    TEXTURE_S,   /* texture instructions of the first versions */
+    COORDINATE_S, /* TEX in ps_1_4 */
+    TEMPORARY_S, /* CND's first before ps_1_4, BEM's second */
+    CONSTANT_S,  /* TEXM3x3SPEC's second */
+    BUMPED_S,    /* BEM's first */
     PREDICATE,   /* the token behind a predicated instruction's destination */
     RELATIVE,    /* the token behind an operand with bit 13 */
     JUDGED_PLACES,
@@ -55,17 +75,20 @@ enum { TYPE_SAMPLER = 10, TYPE_MISC = 17, TYPE_PREDICATE = 19 };
 
 static const uint32_t BIT_31 = UINT32_C(1) << 31;
 static const uint32_t BIT_13 = UINT32_C(1) << 13;
+static const uint32_t COISSUE = UINT32_C(1) << 30;
 
 /* Bits of a token that its layout fixes: bit 31 as one, the others as zero. */
 #define SOURCE_FIXED UINT32_C(0x8000E000)
 #define VERTEX_FIXED UINT32_C(0x8FE0E000)
 #define PIXEL_FIXED UINT32_C(0x8F80E000)
+#define SHIFTED_FIXED UINT32_C(0x8080E000)
 #define INDEXABLE(fixed) ((fixed) & ~UINT32_C(0x2000))
 
 /* Modifiers as a set; D is tied to type 19 in judge_token. */
 #define NO_MODIFIER UINT32_C(0x0001)
 #define NONE_OR_NOT UINT32_C(0x2001)
 #define ALL_MODIFIERS UINT32_C(0x387F)
+#define PS_1_4_MODIFIERS UINT32_C(0x3FFF)
 
 struct layout {
     uint32_t fixed;     /* bits that must read as BIT_31 */
@@ -99,6 +122,31 @@ struct layout {
         [RELATIVE] = {SOURCE_FIXED, NO_MODIFIER, relative_types},                                 \
     }
 
+/* The first versions: all their sources are laid out alike, and so are all their
+   destinations, whose bits 27:24 are the shift scale where they are not fixed. */
+#define FIRST_LAYOUTS(fixed_d, fixed_s, modifiers, moved_types, d_types, s_types, dcl_types) \
+    {                                                                                        \
+        [FREE_D] = {fixed_d, 0, d_types},                                                    \
+        [CONST_D] = {fixed_d, 0, TYPE(2) | TYPE(11) | TYPE(12) | TYPE(13)},                  \
+        [KILL_D] = {fixed_d, 0, TYPE(0) | TYPE(3)},                                          \
+        [MOVED_D] = {fixed_d, 0, moved_types},                                               \
+        [TEXTURE_D] = {fixed_d, 0, TYPE(3)},                                                 \
+        [TEMPORARY_D] = {fixed_d, 0, TYPE(0)},                                               \
+        [DECLARED_D] = {fixed_d, 0, dcl_types},                                              \
+        [FREE_S] = {fixed_s, modifiers, s_types},                                            \
+        [TEXTURE_S] = {fixed_s, modifiers, TYPE(3)},                                         \
+        [COORDINATE_S] = {fixed_s, modifiers, TYPE(0) | TYPE(3)},                            \
+        [TEMPORARY_S] = {fixed_s, modifiers, TYPE(0)},                                       \
+        [CONSTANT_S] = {fixed_s, modifiers, TYPE(2)},                                        \
+        [BUMPED_S] = {fixed_s, modifiers, TYPE(0) | TYPE(2)},                                \
+    }
+
+#define V1_D_TYPES (TYPE(0) | TYPE(4) | TYPE(5) | TYPE(6))
+#define PS_1_X(modifiers, d_types, s_types) \
+    FIRST_LAYOUTS(SHIFTED_FIXED, SOURCE_FIXED, modifiers, d_types, d_types, s_types, 0)
+#define PS_1_1_TO_3 \
+    PS_1_X(ALL_MODIFIERS, TYPE(0) | TYPE(3), TYPE(0) | TYPE(1) | TYPE(2) | TYPE(3))
+
 static const struct layout layouts[VERSIONS][JUDGED_PLACES] = {
     [V2] = LAYOUTS(VERTEX_FIXED, VERTEX_FIXED, INDEXABLE(SOURCE_FIXED),
                    VERTEX_D_TYPES, VERTEX_S_TYPES,
@@ -112,6 +160,12 @@ static const struct layout layouts[VERSIONS][JUDGED_PLACES] = {
     [P3] = LAYOUTS(PIXEL_FIXED, PIXEL_FIXED, INDEXABLE(SOURCE_FIXED),
                    PIXEL_D_TYPES, PIXEL_S_TYPES,
                    TYPE(14) | TYPE(19), TYPE(15), TYPE(1) | TYPE(3) | TYPE(10) | TYPE(17)),
+    [V1] = FIRST_LAYOUTS(VERTEX_FIXED, INDEXABLE(SOURCE_FIXED), ALL_MODIFIERS,
+                         V1_D_TYPES | TYPE(3), V1_D_TYPES, VERTEX_S_TYPES, TYPE(1)),
+    [P11] = PS_1_1_TO_3,
+    [P12] = PS_1_1_TO_3,
+    [P13] = PS_1_1_TO_3,
+    [P14] = PS_1_X(PS_1_4_MODIFIERS, TYPE(0), TYPE(0) | TYPE(1) | TYPE(2)),
 };
 
 static uint32_t field(uint32_t token, unsigned low, uint32_t ones)
@@ -137,6 +191,14 @@ static inline uint32_t judge_token(uint32_t token, const struct layout *layout)
     if (!(layout->types >> type & 1))
         return SECOND_REGISTER;
     return SECOND_YES;
+}
+
+/* A destination of a first version, which has no modifier. */
+static inline uint32_t judge_first_destination(uint32_t token, const struct layout *layout)
+{
+    if ((token & layout->fixed) != BIT_31)
+        return SECOND_OPERAND;
+    return layout->types >> type_of(token) & 1 ? SECOND_YES : SECOND_REGISTER;
 }
 
 /* ---- The opcode table ------------------------------------------------- */
@@ -182,7 +244,7 @@ struct rule {
 #define SS(set, flow, s, t) {set, 0, 0, 0, flow, 2, {s, t}}
 #define COMPARE(set, flow) {set, 0, 1, 6, flow, 2, {FREE_S, FREE_S}}
 
-enum { OP_DCL = 31, OP_SINCOS = 37, SINCOS_3 = 97, RULES };
+enum { OP_DCL = 31, OP_SINCOS = 37, SINCOS_3 = 97, RULES, OP_PHASE = 0xFFFD };
 
 static const struct rule rules[RULES] = {
     [0] = BARE(ALL, PLAIN),                             /* NOP */
@@ -250,14 +312,129 @@ static const struct rule rules[RULES] = {
     [SINCOS_3] = DS(THREE), /* not an opcode: SINCOS as V3 and P3 have it */
 };
 
-/* The rule of an opcode in a version, or null. */
-static inline const struct rule *rule_of(enum version version, uint32_t opcode)
+/* The rows of operands that instructions of the first versions have. No rule
+   of these says anything on versions: the table below does. */
+enum row {
+    NO_ROW,
+    NONE,      /* no operands */
+    D_S,       /* free ones */
+    D_S_S,
+    D_S_S_S,
+    M_S,       /* MOV */
+    U_D,       /* DCL */
+    T,         /* a texture instruction's destination ... */
+    T_T,       /* ... with a source ... */
+    T_T_C,     /* ... and a constant */
+    K,         /* TEXKILL */
+    E,         /* a temporary, in ps_1_4 ... */
+    E_T,       /* ... from a coordinate ... */
+    E_ET,      /* ... or from either */
+    E_B_E,     /* BEM */
+    D_E_S_S,   /* CND before ps_1_4 */
+    DEF_ROW,
+    ROWS
+};
+
+#define ROW(count, ...) {0, 0, 0, 0, PLAIN, count, {__VA_ARGS__}}
+
+static const struct rule first_rules[ROWS] = {
+    [NONE] = ROW(0, 0),
+    [D_S] = ROW(2, FREE_D, FREE_S),
+    [D_S_S] = ROW(3, FREE_D, FREE_S, FREE_S),
+    [D_S_S_S] = ROW(4, FREE_D, FREE_S, FREE_S, FREE_S),
+    [M_S] = ROW(2, MOVED_D, FREE_S),
+    [U_D] = ROW(2, USAGE, DECLARED_D),
+    [T] = ROW(1, TEXTURE_D),
+    [T_T] = ROW(2, TEXTURE_D, TEXTURE_S),
+    [T_T_C] = ROW(3, TEXTURE_D, TEXTURE_S, CONSTANT_S),
+    [K] = ROW(1, KILL_D),
+    [E] = ROW(1, TEMPORARY_D),
+    [E_T] = ROW(2, TEMPORARY_D, TEXTURE_S),
+    [E_ET] = ROW(2, TEMPORARY_D, COORDINATE_S),
+    [E_B_E] = ROW(3, TEMPORARY_D, BUMPED_S, TEMPORARY_S),
+    [D_E_S_S] = ROW(4, FREE_D, TEMPORARY_S, FREE_S, FREE_S),
+    [DEF_ROW] = ROW(5, CONST_D, RAW, RAW, RAW, RAW),
+};
+
+/* docs/FIRST-VERSIONS.md, row by row: V1, then P11 to P14. */
+enum { FIRST_OPCODES = 90, FIRST_VERSIONS = 5 };
+
+static const uint8_t first_rows[FIRST_OPCODES][FIRST_VERSIONS] = {
+    [0] = {NONE, NONE, NONE, NONE, NONE},                  /* NOP */
+    [1] = {M_S, M_S, M_S, M_S, M_S},                       /* MOV */
+    [2] = {D_S_S, D_S_S, D_S_S, D_S_S, D_S_S},             /* ADD */
+    [3] = {D_S_S, D_S_S, D_S_S, D_S_S, D_S_S},             /* SUB */
+    [4] = {D_S_S_S, D_S_S_S, D_S_S_S, D_S_S_S, D_S_S_S},   /* MAD */
+    [5] = {D_S_S, D_S_S, D_S_S, D_S_S, D_S_S},             /* MUL */
+    [6] = {D_S},                                           /* RCP */
+    [7] = {D_S},                                           /* RSQ */
+    [8] = {D_S_S, D_S_S, D_S_S, D_S_S, D_S_S},             /* DP3 */
+    [9] = {D_S_S, NO_ROW, D_S_S, D_S_S, D_S_S},            /* DP4 */
+    [10] = {D_S_S},                                        /* MIN */
+    [11] = {D_S_S},                                        /* MAX */
+    [12] = {D_S_S},                                        /* SLT */
+    [13] = {D_S_S},                                        /* SGE */
+    [14] = {D_S},                                          /* EXP */
+    [15] = {D_S},                                          /* LOG */
+    [16] = {D_S},                                          /* LIT */
+    [17] = {D_S_S},                                        /* DST */
+    [18] = {NO_ROW, D_S_S_S, D_S_S_S, D_S_S_S, D_S_S_S},   /* LRP */
+    [19] = {D_S},                                          /* FRC */
+    [20] = {D_S_S},                                        /* M4x4 */
+    [21] = {D_S_S},                                        /* M4x3 */
+    [22] = {D_S_S},                                        /* M3x4 */
+    [23] = {D_S_S},                                        /* M3x3 */
+    [24] = {D_S_S},                                        /* M3x2 */
+    [OP_DCL] = {U_D},
+    [64] = {NO_ROW, T, T, T, E_T},                         /* TEXCOORD */
+    [65] = {NO_ROW, K, K, K, K},                           /* TEXKILL */
+    [66] = {NO_ROW, T, T, T, E_ET},                        /* TEX */
+    [67] = {NO_ROW, T_T, T_T, T_T},                        /* TEXBEM */
+    [68] = {NO_ROW, T_T, T_T, T_T},                        /* TEXBEML */
+    [69] = {NO_ROW, T_T, T_T, T_T},                        /* TEXREG2AR */
+    [70] = {NO_ROW, T_T, T_T, T_T},                        /* TEXREG2GB */
+    [71] = {NO_ROW, T_T, T_T, T_T},                        /* TEXM3x2PAD */
+    [72] = {NO_ROW, T_T, T_T, T_T},                        /* TEXM3x2TEX */
+    [73] = {NO_ROW, T_T, T_T, T_T},                        /* TEXM3x3PAD */
+    [74] = {NO_ROW, T_T, T_T, T_T},                        /* TEXM3x3TEX */
+    [76] = {NO_ROW, T_T_C, T_T_C, T_T_C},                  /* TEXM3x3SPEC */
+    [77] = {NO_ROW, T_T, T_T, T_T},                        /* TEXM3x3VSPEC */
+    [78] = {D_S},                                          /* EXPP */
+    [79] = {D_S},                                          /* LOGP */
+    [80] = {NO_ROW, D_E_S_S, D_E_S_S, D_E_S_S, D_S_S_S},   /* CND */
+    [81] = {DEF_ROW, DEF_ROW, DEF_ROW, DEF_ROW, DEF_ROW},  /* DEF */
+    [82] = {NO_ROW, NO_ROW, T_T, T_T},                     /* TEXREG2RGB */
+    [83] = {NO_ROW, NO_ROW, T_T, T_T},                     /* TEXDP3TEX */
+    [84] = {NO_ROW, NO_ROW, NO_ROW, T_T},                  /* TEXM3x2DEPTH */
+    [85] = {NO_ROW, NO_ROW, T_T, T_T},                     /* TEXDP3 */
+    [86] = {NO_ROW, NO_ROW, T_T, T_T},                     /* TEXM3x3 */
+    [87] = {NO_ROW, NO_ROW, NO_ROW, NO_ROW, E},            /* TEXDEPTH */
+    [88] = {NO_ROW, NO_ROW, D_S_S_S, D_S_S_S, D_S_S_S},    /* CMP */
+    [89] = {NO_ROW, NO_ROW, NO_ROW, NO_ROW, E_B_E},        /* BEM */
+};
+
+static inline const struct rule *first_rule_of(enum version version, uint32_t opcode)
+{
+    if (opcode >= FIRST_OPCODES)
+        return opcode == OP_PHASE && version == P14 ? &first_rules[NONE] : NULL;
+
+    const unsigned row = first_rows[opcode][version - V1];
+    return row != NO_ROW ? &first_rules[row] : NULL;
+}
+
+static inline const struct rule *later_rule_of(enum version version, uint32_t opcode)
 {
     if (opcode >= SINCOS_3)
         return NULL;
     if (opcode == OP_SINCOS && is_version_3(version))
         return &rules[SINCOS_3];
     return rules[opcode].versions >> version & 1 ? &rules[opcode] : NULL;
+}
+
+/* The rule of an opcode in a version, or null. */
+static inline const struct rule *rule_of(enum version version, uint32_t opcode)
+{
+    return is_first(version) ? first_rule_of(version, opcode) : later_rule_of(version, opcode);
 }
 
 /* ---- One instruction, up to SIZE -------------------------------------- */
@@ -272,6 +449,11 @@ static bool is_declarable(uint32_t destination)
     return number == 0 || (number == 1 && field(destination, 16, 0xFF) == 0x0F);
 }
 
+static bool is_usage_form(uint32_t token)
+{
+    return (token & 0xFFF0FFE0) == BIT_31 && field(token, 0, 0x1F) <= 13;
+}
+
 /* DCL's usage token beside a lawful destination of this type. */
 static bool is_usage(enum version version, uint32_t type, uint32_t token)
 {
@@ -283,7 +465,7 @@ static bool is_usage(enum version version, uint32_t type, uint32_t token)
         return (token & 0x07FFFFFF) == 0 && texture >= 2 && texture <= 4;
     if (version == P2 || type == TYPE_MISC)
         return token == BIT_31;
-    return (token & 0x7FF0FFE0) == 0 && field(token, 0, 0x1F) <= 13;
+    return is_usage_form(token);
 }
 
 /*
@@ -318,7 +500,7 @@ static uint32_t judge_dcl(enum version version, const uint32_t *tokens, size_t a
  * The operands behind the instruction token at `at`, left to right; the stated
  * size ends before `end`. Of an instruction that is predicated the first is the
  * destination, and the predicate stands straight behind it and its relative
- * token. *place as in judge_instruction.
+ * token. *place as in judge_later.
  */
 static inline uint32_t judge_operands(enum version version, const struct rule *rule,
                                       bool predicated, const uint32_t *tokens, size_t at,
@@ -361,36 +543,42 @@ static inline uint32_t judge_operands(enum version version, const struct rule *r
     return SECOND_YES;
 }
 
+/* A comment or END at tokens[at], `left` tokens before the end. */
+static uint32_t judge_mark(uint32_t token, size_t left, size_t at, size_t *place)
+{
+    const uint32_t length = field(token, 16, 0x7FFF);
+
+    if ((token & 0xFFFF) == SECOND_END) {
+        if (token != SECOND_END)
+            return SECOND_BITS;
+        *place = at + 1;
+        return SECOND_YES;
+    }
+    if (token & BIT_31)
+        return SECOND_BITS;
+    if (length > left)
+        return SECOND_RUN_OUT;
+    *place = at + 1 + length;
+    return SECOND_YES;
+}
+
 /*
- * The instruction, comment or END at tokens[at], where at < count. On a yes
- * *place is the next place, on a refusal the refusal's position.
+ * The instruction, comment or END at tokens[at], where at < count, in a version
+ * of document 01. On a yes *place is the next place, on a refusal the refusal's
+ * position.
  */
-static uint32_t judge_instruction(enum version version, const uint32_t *tokens, size_t count,
-                                  size_t at, size_t *place)
+static uint32_t judge_later(enum version version, const uint32_t *tokens, size_t count,
+                            size_t at, size_t *place)
 {
     const uint32_t token = tokens[at];
     const uint32_t opcode = token & 0xFFFF;
     const size_t left = count - at - 1;
 
     *place = at;
+    if (opcode >= SECOND_COMMENT)
+        return judge_mark(token, left, at, place);
 
-    if (opcode == SECOND_END) {
-        if (token != SECOND_END)
-            return SECOND_BITS;
-        *place = at + 1;
-        return SECOND_YES;
-    }
-    if (opcode == SECOND_COMMENT) {
-        const uint32_t length = field(token, 16, 0x7FFF);
-        if (token & BIT_31)
-            return SECOND_BITS;
-        if (length > left)
-            return SECOND_RUN_OUT;
-        *place = at + 1 + length;
-        return SECOND_YES;
-    }
-
-    const struct rule *const rule = rule_of(version, opcode);
+    const struct rule *const rule = later_rule_of(version, opcode);
     const uint32_t controls = field(token, 16, 0xFF);
     const uint32_t size = field(token, 24, 0xF);
     const uint32_t predicated = field(token, 28, 1);
@@ -415,6 +603,75 @@ static uint32_t judge_instruction(enum version version, const uint32_t *tokens, 
     return judge_operands(version, rule, predicated, tokens, at, end, place);
 }
 
+/* DCL's operands in vs_1_1: as judge_dcl has them, with their one form of U. */
+static uint32_t judge_first_dcl(const uint32_t *tokens, size_t at, size_t *place)
+{
+    const uint32_t number = judge_first_destination(tokens[at + 2], &layouts[V1][DECLARED_D]);
+
+    if (number != SECOND_YES) {
+        *place = at + 2;
+        return number;
+    }
+    if (!is_usage_form(tokens[at + 1])) {
+        *place = at + 1;
+        return SECOND_OPERAND;
+    }
+    *place = at + 3;
+    return SECOND_YES;
+}
+
+/*
+ * The same in a first version: the opcode says how many tokens there are, and
+ * bit 13 brings none. The first operand is the destination, but for DCL.
+ */
+static uint32_t judge_first(enum version version, const uint32_t *tokens, size_t count,
+                            size_t at, size_t *place)
+{
+    const uint32_t token = tokens[at];
+    const uint32_t opcode = token & 0xFFFF;
+    const size_t left = count - at - 1;
+
+    *place = at;
+    if (opcode >= SECOND_COMMENT)
+        return judge_mark(token, left, at, place);
+
+    const struct rule *const rule = first_rule_of(version, opcode);
+    const uint32_t coissue = version == V1 ? 0 : COISSUE;
+    const struct layout *const set = layouts[version];
+
+    if (rule == NULL)
+        return SECOND_OPCODE;
+    if ((token & ~coissue) >> 16 != 0)
+        return SECOND_BITS;
+    if (rule->places > left)
+        return SECOND_RUN_OUT;
+
+    if (opcode == OP_DCL)
+        return judge_first_dcl(tokens, at, place);
+    for (unsigned k = 0; k < rule->places; k++) {
+        const enum place at_k = rule->place[k];
+        if (at_k == RAW)
+            continue;
+        const uint32_t number = k == 0 ? judge_first_destination(tokens[at + 1], &set[at_k])
+                                       : judge_token(tokens[at + 1 + k], &set[at_k]);
+        if (number != SECOND_YES) {
+            *place = at + 1 + k;
+            return number;
+        }
+    }
+    *place = at + 1 + rule->places;
+    return SECOND_YES;
+}
+
+/* Which of the two judges a version's instructions. */
+typedef uint32_t judge(enum version version, const uint32_t *tokens, size_t count, size_t at,
+                       size_t *place);
+
+static judge *judge_of(enum version version)
+{
+    return is_first(version) ? judge_first : judge_later;
+}
+
 /* ---- Blocks ----------------------------------------------------------- */
 
 /*
@@ -428,6 +685,7 @@ enum { KIND_IF, KIND_ELSE, KIND_LOOP, KIND_REP };
 struct blocks {
     uint64_t kinds;
     uint32_t depth;
+    bool phase; /* a PHASE has stood */
 };
 
 static uint32_t open_block(struct blocks *blocks, unsigned kind)
@@ -483,10 +741,20 @@ static uint32_t judge_flow(struct blocks *blocks, enum flow flow)
     return SECOND_BLOCK;
 }
 
+/* PHASE stands once. */
+static uint32_t judge_phase(struct blocks *blocks)
+{
+    if (blocks->phase)
+        return SECOND_BLOCK;
+    blocks->phase = true;
+    return SECOND_YES;
+}
+
 /* ---- The walk --------------------------------------------------------- */
 
 struct walk {
     enum version version;
+    judge *judge;
     const uint32_t *tokens;
     size_t count;
     size_t at;             /* the next instruction; a boundary if below count */
@@ -500,7 +768,7 @@ struct walk {
 static inline struct walk walk_from(enum version version, const uint32_t *tokens, size_t count)
 {
     const struct walk walk = {
-        .version = version, .tokens = tokens, .count = count, .at = 1,
+        .version = version, .judge = judge_of(version), .tokens = tokens, .count = count, .at = 1,
     };
     return walk;
 }
@@ -524,7 +792,7 @@ static inline void walk_on(struct walk *walk)
     }
 
     const uint32_t opcode = walk->tokens[at] & 0xFFFF;
-    uint32_t number = judge_instruction(walk->version, walk->tokens, walk->count, at, &place);
+    uint32_t number = walk->judge(walk->version, walk->tokens, walk->count, at, &place);
     if (number != SECOND_YES) {
         walk_over(walk, number, place);
     } else if (opcode == SECOND_END) {
@@ -535,16 +803,16 @@ static inline void walk_on(struct walk *walk)
         else
             walk_over(walk, SECOND_YES, 0);
     } else {
-        if (opcode != SECOND_COMMENT) {
-            const enum flow flow = rules[opcode].flow;
-            if (flow != PLAIN)
-                number = judge_flow(&walk->blocks, flow);
-            if (number != SECOND_YES) {
-                walk_over(walk, number, at);
-                return;
-            }
-            walk->instructions++;
+        if (opcode < SINCOS_3 && rules[opcode].flow != PLAIN)
+            number = judge_flow(&walk->blocks, rules[opcode].flow);
+        else if (opcode == OP_PHASE)
+            number = judge_phase(&walk->blocks);
+        if (number != SECOND_YES) {
+            walk_over(walk, number, at);
+            return;
         }
+        if (opcode != SECOND_COMMENT)
+            walk->instructions++;
         walk->at = place;
     }
 }
@@ -598,8 +866,8 @@ static bool is_destination(enum place place)
 }
 
 /* Fields of the lawful operand at tokens[at]; gives the place behind it. */
-static size_t unpack_operand(enum place place, const uint32_t *tokens, size_t at,
-                             struct second_operand *operand)
+static size_t unpack_operand(enum version version, enum place place, const uint32_t *tokens,
+                             size_t at, struct second_operand *operand)
 {
     const uint32_t token = tokens[at++];
 
@@ -613,11 +881,12 @@ static size_t unpack_operand(enum place place, const uint32_t *tokens, size_t at
     if (is_destination(place)) {
         operand->mask = field(token, 16, 0xF);
         operand->result = field(token, 20, 7);
+        operand->shift = field(token, 24, 0xF);
     } else {
         operand->swizzle = field(token, 16, 0xFF);
         operand->modifier = field(token, 24, 0xF);
     }
-    if (operand->relative) {
+    if (operand->relative && !is_first(version)) {
         operand->relative_number = field(tokens[at], 0, 0x7FF);
         operand->relative_type = type_of(tokens[at]);
         operand->relative_swizzle = field(tokens[at], 16, 0xFF);
@@ -644,14 +913,15 @@ static void unpack(enum version version, const uint32_t *tokens, size_t at,
     const struct rule *const rule = rule_of(version, opcode);
     record->controls = field(token, 16, 0xFF);
     record->predicated = field(token, 28, 1);
+    record->coissue = field(token, 30, 1);
     unsigned k = 0;
     if (record->predicated) {
-        at = unpack_operand(rule->place[k], tokens, at, &record->operands[k]);
-        at = unpack_operand(PREDICATE, tokens, at, &record->operands[SECOND_PREDICATE]);
+        at = unpack_operand(version, rule->place[k], tokens, at, &record->operands[k]);
+        at = unpack_operand(version, PREDICATE, tokens, at, &record->operands[SECOND_PREDICATE]);
         k++;
     }
     for (; k < rule->places; k++)
-        at = unpack_operand(rule->place[k], tokens, at, &record->operands[k]);
+        at = unpack_operand(version, rule->place[k], tokens, at, &record->operands[k]);
 }
 
 struct second_read second_read(uint32_t version, const uint32_t *tokens, size_t count, size_t at)
@@ -668,7 +938,7 @@ struct second_read second_read(uint32_t version, const uint32_t *tokens, size_t 
         result.number = SECOND_RUN_OUT;
         place = count;
     } else {
-        result.number = judge_instruction(known, tokens, count, at, &place);
+        result.number = judge_of(known)(known, tokens, count, at, &place);
         if (result.number == SECOND_YES) {
             result.next = place;
             unpack(known, tokens, at, &result.record);
@@ -690,8 +960,8 @@ static uint32_t type_bits(uint32_t type)
 }
 
 /* Fields too wide for their bits lose their upper part here. */
-static size_t pack_operand(enum place place, const struct second_operand *operand,
-                           uint32_t *tokens, size_t at)
+static size_t pack_operand(enum version version, enum place place,
+                           const struct second_operand *operand, uint32_t *tokens, size_t at)
 {
     if (place == RAW || place == USAGE) {
         tokens[at++] = operand->raw;
@@ -700,7 +970,8 @@ static size_t pack_operand(enum place place, const struct second_operand *operan
 
     uint32_t token = BIT_31 | type_bits(operand->type) | field(operand->number, 0, 0x7FF);
     if (is_destination(place))
-        token |= field(operand->mask, 0, 0xF) << 16 | field(operand->result, 0, 7) << 20;
+        token |= field(operand->mask, 0, 0xF) << 16 | field(operand->result, 0, 7) << 20
+               | field(operand->shift, 0, 0xF) << 24;
     else
         token |= field(operand->swizzle, 0, 0xFF) << 16 | field(operand->modifier, 0, 0xF) << 24;
 
@@ -708,9 +979,10 @@ static size_t pack_operand(enum place place, const struct second_operand *operan
         tokens[at++] = token;
     } else {
         tokens[at++] = token | BIT_13;
-        tokens[at++] = BIT_31 | type_bits(operand->relative_type)
-                     | field(operand->relative_number, 0, 0x7FF)
-                     | field(operand->relative_swizzle, 0, 0xFF) << 16;
+        if (!is_first(version))
+            tokens[at++] = BIT_31 | type_bits(operand->relative_type)
+                         | field(operand->relative_number, 0, 0x7FF)
+                         | field(operand->relative_swizzle, 0, 0xFF) << 16;
     }
     return at;
 }
@@ -723,21 +995,23 @@ static size_t pack_operand(enum place place, const struct second_operand *operan
 static size_t pack(uint32_t version, const struct second_record *record,
                    uint32_t tokens[PACKED_MAX])
 {
-    const struct rule *const rule = rule_of(version_of(version), record->opcode);
+    const enum version known = version_of(version);
+    const struct rule *const rule = rule_of(known, record->opcode);
     size_t at = 1;
     unsigned k = 0;
 
     if (rule == NULL)
         return 0;
     if (record->predicated && rule->predicable) {
-        at = pack_operand(rule->place[k], &record->operands[k], tokens, at);
-        at = pack_operand(PREDICATE, &record->operands[SECOND_PREDICATE], tokens, at);
+        at = pack_operand(known, rule->place[k], &record->operands[k], tokens, at);
+        at = pack_operand(known, PREDICATE, &record->operands[SECOND_PREDICATE], tokens, at);
         k++;
     }
     for (; k < rule->places; k++)
-        at = pack_operand(rule->place[k], &record->operands[k], tokens, at);
-    tokens[0] = record->opcode | field(record->controls, 0, 0xFF) << 16 | (uint32_t)(at - 1) << 24
-              | (record->predicated ? UINT32_C(1) << 28 : 0);
+        at = pack_operand(known, rule->place[k], &record->operands[k], tokens, at);
+    tokens[0] = record->opcode | field(record->controls, 0, 0xFF) << 16
+              | (is_first(known) ? 0 : (uint32_t)(at - 1) << 24)
+              | (record->predicated ? UINT32_C(1) << 28 : 0) | (record->coissue ? COISSUE : 0);
 
     const struct second_read back = second_read(version, tokens, at, 0);
     if (back.number != SECOND_YES || memcmp(&back.record, record, sizeof *record) != 0)
@@ -745,7 +1019,7 @@ static size_t pack(uint32_t version, const struct second_record *record,
     return at;
 }
 
-_Static_assert(sizeof(struct second_record) == (4 + 11 * SECOND_OPERANDS) * sizeof(uint32_t),
+_Static_assert(sizeof(struct second_record) == (5 + 12 * SECOND_OPERANDS) * sizeof(uint32_t),
                "records are compared as bytes and must not hold padding");
 
 struct second_written second_write(uint32_t version, const struct second_record *record,
@@ -805,7 +1079,7 @@ static void copy_tokens(uint32_t *to, const uint32_t *from, size_t count)
 
 static bool same_blocks(struct blocks a, struct blocks b)
 {
-    return a.depth == b.depth && a.kinds == b.kinds;
+    return a.depth == b.depth && a.kinds == b.kinds && a.phase == b.phase;
 }
 
 struct second_edited second_edit(uint32_t *buffer, size_t buffer_length, size_t n,
@@ -821,7 +1095,7 @@ struct second_edited second_edit(uint32_t *buffer, size_t buffer_length, size_t 
 
     /* The old stream: are i and j boundaries, and what is open at j. */
     bool found_i = false, found_j = false;
-    struct blocks open_at_j = {0, 0};
+    struct blocks open_at_j = {0};
     for (struct walk old = walk_from(version, buffer, n); !old.over; walk_on(&old)) {
         if (old.at == n)
             break;

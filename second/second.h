@@ -1,6 +1,7 @@
 /*
  * A second program for the rules of documents 01 and 02: check, reader, writer
- * and edit of shader token streams (vs_2_0, vs_3_0, ps_2_0, ps_3_0).
+ * and edit of shader token streams (vs_1_1, vs_2_0, vs_3_0, ps_1_1 to ps_1_4,
+ * ps_2_0, ps_3_0).
  *
  * Nothing here allocates or keeps state between calls. A pointer whose length
  * is 0 may be null.
@@ -52,14 +53,15 @@ struct second_verdict second_check_bytes(const uint8_t *bytes, size_t length);
 
 /*
  * One operand of a record.
- *   destination  number, type, mask, result (bits 22:20), relative
+ *   destination  number, type, mask, result (bits 22:20), shift (bits 27:24), relative
  *   source       number, type, swizzle, modifier, relative
  *   R or U       raw
  * relative is 1 where a relative token follows; the relative_ fields are that
- * token's. All fields not named are 0.
+ * token's. In vs_1_1 it is bit 13 alone: no token follows and the relative_
+ * fields are 0. All fields not named are 0.
  */
 struct second_operand {
-    uint32_t number, type, mask, swizzle, modifier, result;
+    uint32_t number, type, mask, swizzle, modifier, result, shift;
     uint32_t relative, relative_number, relative_type, relative_swizzle;
     uint32_t raw;
 };
@@ -69,10 +71,10 @@ struct second_operand {
  * predicate is always operands[5]; unused places are all zero.
  *   comment  opcode SECOND_COMMENT and length, all else 0
  *   END      opcode SECOND_END, all else 0
- *   other    length 0
+ *   other    length 0; coissue is bit 30, which only ps_1_1 to ps_1_4 have
  */
 struct second_record {
-    uint32_t opcode, controls, predicated, length;
+    uint32_t opcode, controls, predicated, coissue, length;
     struct second_operand operands[SECOND_OPERANDS];
 };
 

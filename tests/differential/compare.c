@@ -104,7 +104,7 @@ static void check_all(struct generate_source *source, unsigned rounds)
         check_stream(NULL, tokens, damaged);
     }
     for (unsigned version = 0; version < GENERATE_VERSIONS; version++)
-        for (unsigned depth = 1; version != 2 && depth <= 26; depth++) {
+        for (unsigned depth = 1; generate_has_blocks(version) && depth <= 26; depth++) {
             const size_t length = generate_nested(source, version, tokens, depth);
             check_stream(NULL, tokens, length);
         }
@@ -116,6 +116,7 @@ static void check_all(struct generate_source *source, unsigned rounds)
 
 /* The two records have the same fields in the same order, all uint32_t. */
 _Static_assert(sizeof(struct second_record) == sizeof(struct santubeli_record), "records differ in size");
+_Static_assert(sizeof(struct santubeli_record) == 308, "a record is 308 bytes");
 
 static bool same_reading(const struct second_read *expected, const struct santubeli_reading *given)
 {

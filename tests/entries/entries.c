@@ -194,6 +194,72 @@ static void predicate_entries(void)
            "a run with the predicate behind the destination is JOINED");
 }
 
+/* Document 02, Q-4: tex t0, +mov_x2_sat r1, -t0, in ps_1_1, co-issue and shift scale at once. */
+static const uint32_t coissued[] = {0xFFFF0101, 0x00000042, 0xB00F0000, 0x40000001, 0x811F0001, 0xB1E40000, 0x0000FFFF};
+/* add oPos, c7[a0.x], v0 in vs_1_1: bit 13, and no token behind it. */
+static const uint32_t indexed[] = {0xFFFE0101, 0x00000002, 0xC00F0000, 0xA0E42007, 0x90E40000, 0x0000FFFF};
+/* phase, nop, in ps_1_4, and a second phase. */
+static const uint32_t phased[] = {0xFFFF0104, 0x0000FFFD, 0x00000000, 0x0000FFFF};
+static const uint32_t phased_twice[] = {0xFFFF0104, 0x0000FFFD, 0x4000FFFD, 0x0000FFFF};
+
+static void check_first_versions(void)
+{
+    uint8_t bytes[sizeof coissued];
+
+    memcpy(bytes, coissued, sizeof bytes);
+    expect(accepted(santubeli_check_tokens(coissued, 7), 7, 2), "co-issue and a shift scale, tokens");
+    expect(accepted(santubeli_check(bytes, sizeof coissued), 7, 2), "co-issue and a shift scale, bytes");
+    expect(refused(santubeli_check_tokens(coissued, 5), SANTUBELI_RUN_OUT, 3), "an operand cut away, tokens");
+    expect(refused(santubeli_check(bytes, 20), SANTUBELI_RUN_OUT, 3), "an operand cut away, bytes");
+    expect(accepted(santubeli_check_tokens(indexed, 6), 6, 1), "bit 13 in vs_1_1");
+    expect(accepted(santubeli_check_tokens(phased, 4), 4, 2), "PHASE is counted");
+    expect(refused(santubeli_check_tokens(phased_twice, 4), SANTUBELI_BLOCK, 2), "a second PHASE, tokens");
+    memcpy(bytes, phased_twice, sizeof phased_twice);
+    expect(refused(santubeli_check(bytes, sizeof phased_twice), SANTUBELI_BLOCK, 2), "a second PHASE, bytes");
+}
+
+static void first_version_records(void)
+{
+    uint32_t buffer[6] = {1, 2, 3, 4, 5, 6};
+
+    struct santubeli_reading r = santubeli_read(0xFFFF0101, coissued, 7, 3);
+    expect(r.number == 0 && r.next == 6 && r.record.coissue == 1 && r.record.predicated == 0, "reading co-issue");
+    expect(r.record.operands[0].shift == 1 && r.record.operands[0].result == 1 && r.record.operands[0].modifier == 0
+               && r.record.operands[1].modifier == 1 && r.record.operands[1].shift == 0,
+           "a shift scale and a modifier");
+    expect(unread(santubeli_read(0xFFFF0101, coissued, 5, 3), SANTUBELI_RUN_OUT, 3), "reading an operand cut away");
+    expect(unread(santubeli_read(0xFFFF0200, coissued, 7, 3), SANTUBELI_BITS, 3), "reading co-issue in ps_2_0");
+    struct santubeli_written w = santubeli_write(0xFFFF0200, r.record, NULL, 0, buffer, 6, 1);
+    expect(w.number == SANTUBELI_RECORD && buffer[1] == 2, "writing co-issue in ps_2_0");
+    w = santubeli_write(0xFFFF0101, r.record, NULL, 0, buffer, 6, 1);
+    expect(w.number == 0 && w.next == 4 && memcmp(buffer + 1, coissued + 3, 12) == 0 && buffer[0] == 1 && buffer[4] == 5,
+           "writing co-issue and a shift scale back");
+
+    r = santubeli_read(0xFFFE0101, indexed, 6, 1);
+    expect(r.number == 0 && r.next == 5 && r.record.operands[1].relative == 1 && r.record.operands[1].relative_number == 0
+               && r.record.operands[1].relative_type == 0 && r.record.operands[1].relative_swizzle == 0,
+           "reading bit 13 in vs_1_1");
+    w = santubeli_write(0xFFFE0101, r.record, NULL, 0, buffer, 4, 0);
+    expect(w.number == 0 && w.next == 4 && memcmp(buffer, indexed + 1, 16) == 0, "writing bit 13 back, and no token behind it");
+    r.record.operands[1].relative_type = 3;
+    w = santubeli_write(0xFFFE0101, r.record, NULL, 0, buffer, 6, 0);
+    expect(w.number == SANTUBELI_RECORD && memcmp(buffer, indexed + 1, 16) == 0, "writing a relative token in vs_1_1");
+}
+
+static void edit_first_versions(void)
+{
+    uint32_t buffer[4];
+    const uint32_t coissued_phase[] = {0x4000FFFD};
+
+    memcpy(buffer, phased, sizeof phased);
+    expect(unedited(santubeli_edit(buffer, 4, 4, 2, 3, phased + 1, 1), SANTUBELI_BLOCK, 2), "an edit with a second PHASE");
+    struct santubeli_edited e = santubeli_edit(buffer, 4, 4, 1, 2, coissued_phase, 1);
+    expect(e.number == 0 && e.joined == 1 && e.length == 4 && buffer[1] == 0x4000FFFD, "PHASE for PHASE is JOINED");
+    e = santubeli_edit(buffer, 4, 4, 1, 2, NULL, 0);
+    expect(e.number == 0 && e.joined == 0 && e.length == 3 && buffer[1] == 0 && buffer[2] == 0x0000FFFF,
+           "without its PHASE: ACCEPTED, although no block is open");
+}
+
 int main(void)
 {
     check_entries();
@@ -201,6 +267,9 @@ int main(void)
     write_entries();
     edit_entries();
     predicate_entries();
+    check_first_versions();
+    first_version_records();
+    edit_first_versions();
     printf("%u passed, %u failed\n", passed, failed);
     return failed != 0;
 }

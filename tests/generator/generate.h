@@ -2,9 +2,10 @@
  * Seeded, repeatable test data: token streams lawful, systematic and damaged,
  * edits and records. The same seed gives the same data on every machine.
  *
- * The table in generate.c is typed from documents 01 and 02 by itself and shares
- * nothing with second.c; second_read is used only to cut streams into
- * instructions and to turn lawful tokens into records.
+ * The tables in generate.c are typed from documents 01 and 02 and from
+ * docs/FIRST-VERSIONS.md by themselves and share nothing with second.c;
+ * second_read is used only to cut streams into instructions and to turn lawful
+ * tokens into records.
  */
 #ifndef GENERATE_H
 #define GENERATE_H
@@ -18,7 +19,7 @@
 enum {
     GENERATE_MAX = 16384,         /* longest lawful stream */
     GENERATE_ROOM = 16384 + 1024, /* tokens a lent array must hold */
-    GENERATE_VERSIONS = 4,        /* V2, V3, P2, P3, in this order */
+    GENERATE_VERSIONS = 9,        /* V2, V3, P2, P3, V1, P11 to P14, in this order */
     GENERATE_INSTRUCTION = 16     /* an instruction has no more tokens than this */
 };
 
@@ -41,6 +42,9 @@ bool generate_chance(struct generate_source *source, unsigned parts, unsigned of
 /* The version's first token. */
 uint32_t generate_version(unsigned version);
 
+/* Whether the version has IF, LOOP and REP. */
+bool generate_has_blocks(unsigned version);
+
 /* One lawful instruction of at most `most` tokens (at least 1) that opens, closes and
    asks for no block. Gives its length. */
 size_t generate_instruction(struct generate_source *source, unsigned version,
@@ -62,17 +66,18 @@ void generate_damage(struct generate_source *source, uint32_t *tokens, size_t *c
 size_t generate_damaged(struct generate_source *source, unsigned version,
                         uint32_t *tokens, size_t maximum);
 
-/* Blocks of mixed kinds nested `depth` deep and closed again, in any version
-   but P2. Gives the count. */
+/* Blocks of mixed kinds nested `depth` deep and closed again, in a version that
+   has blocks. Gives the count. */
 size_t generate_nested(struct generate_source *source, unsigned version,
                        uint32_t *tokens, unsigned depth);
 
 /*
  * Every stream of the systematic set, some hundred thousand, each with one
  * instruction under test: opcodes 0 to 100 and FFFC to FFFF in every version,
- * every place with all types and modifiers, with and without relative tokens
- * and a predicate, which stands at every place once, each bit flipped, each
- * size, many controls, and DCL's forms. Gives how many there were.
+ * every place with all types and modifiers or shift scales, with and without
+ * bit 13, relative tokens and a predicate, which stands at every place once,
+ * each bit flipped, each size, the stream cut behind each token, many controls,
+ * and DCL's forms. Gives how many there were.
  */
 typedef void generate_visit(void *context, const uint32_t *tokens, size_t count);
 uint64_t generate_systematic(generate_visit *visit, void *context);

@@ -1,4 +1,5 @@
-// Prints the time of one token in the check of tokens: the proved library's and the second program's, on a generated stream.
+// Prints the time of one token in the check of tokens: the proved library's and the second program's, on a generated stream of the
+// version that has this number in the generator.
 #include "../../include/santubeli.h"
 #include "../../second/second.h"
 #include "../generator/generate.h"
@@ -38,8 +39,8 @@ static double round_of(uint32_t (*check)(void)) {
 }
 
 int main(int count, char **arguments) {
-    if (count != 2) {
-        fprintf(stderr, "usage: time VERSION\n");
+    if (count != 3) {
+        fprintf(stderr, "usage: time VERSION NAME\n");
         return 1;
     }
     struct generate_source source = generate_seed(1);
@@ -50,6 +51,6 @@ int main(int count, char **arguments) {
         best_proved = p < best_proved ? p : best_proved;
         best_second = s < best_second ? s : best_second;
     }
-    printf("generated 16,000, version %s    %5.2f / %5.2f = %.2f\n", arguments[1], best_proved, best_second, best_proved / best_second);
+    printf("generated 16,000, %s    %5.2f / %5.2f = %.2f\n", arguments[2], best_proved, best_second, best_proved / best_second);
     return 0;
 }

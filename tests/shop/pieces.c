@@ -20,11 +20,12 @@ static void say(bool right, const char *what)
     }
 }
 
-/* Tokens from text: hexadecimal words, or V2 V3 P2 P3, or . for END. */
+/* Tokens from text: hexadecimal words, or a version's name, or . for END. */
 static size_t parse(const char *text, uint32_t *tokens)
 {
     static const struct { const char *word; uint32_t token; } names[] = {
         {"V2", 0xFFFE0200}, {"V3", 0xFFFE0300}, {"P2", 0xFFFF0200}, {"P3", 0xFFFF0300},
+        {"V1", 0xFFFE0101}, {"P11", 0xFFFF0101}, {"P12", 0xFFFF0102}, {"P13", 0xFFFF0103}, {"P14", 0xFFFF0104},
         {".", 0x0000FFFF},
     };
     size_t count = 0;
@@ -257,7 +258,6 @@ static const struct check_piece check_pieces[] = {
     {"P3 12000019 A0E41000 B0E41000 .", 4, 1, 0},
 
     /* every other number, and places in the table that are easy to mistype */
-    {"FFFE0101 .", 2, 0, 0},
     {"00000000 .", 2, 0, 0},
     {"V3 0000002C .", 9, 1, 0},
     {"V3 01000026 F0E40000 01000028 E0E40800 0000002C 0000002B 00000027 .", 0, 0, 5},
@@ -279,6 +279,202 @@ static const struct check_piece check_pieces[] = {
     {"V3 20000000 .", 4, 1, 0},
     {"V3 40000000 .", 4, 1, 0},
     {"V3 80000000 .", 4, 1, 0},
+
+    /* document 02, Q-4: the five versions, and none besides */
+    {"V1 .", 0, 0, 0},
+    {"P11 .", 0, 0, 0},
+    {"P12 .", 0, 0, 0},
+    {"P13 .", 0, 0, 0},
+    {"P14 .", 0, 0, 0},
+    {"FFFE0100 .", 2, 0, 0},
+    {"FFFE0102 .", 2, 0, 0},
+    {"FFFE0104 .", 2, 0, 0},
+    {"FFFF0100 .", 2, 0, 0},
+    {"FFFF0105 .", 2, 0, 0},
+    {"FFFF0201 .", 2, 0, 0},
+    {"FFFD0101 .", 2, 0, 0},
+    /* no size: the opcode alone tells how many tokens there are */
+    {"V1 00000001 800F0000 A0E40000 .", 0, 0, 1},
+    {"V1 00000001 800F0000", 5, 1, 0},
+    {"V1 00000001", 5, 1, 0},
+    {"V1 00000001 800F4000", 5, 1, 0},
+    {"V1 00000001 800F0000 .", 7, 3, 0},
+    {"V1 00000001 800F0000 A0E40000", 5, 4, 0},
+    {"V1 00000001 800F0000 A0E40000 00000000 .", 0, 0, 2},
+    {"V1 00000001 800F0000 A0E40000 A0E40000 .", 4, 4, 0},
+    {"P11 0000004C B00F0003 B4E40000", 5, 1, 0},
+    {"P11 0000004C B00F0003 B4E40000 A0E40000 .", 0, 0, 1},
+    {"P11 00000051 A00F0000 0 0 0", 5, 1, 0},
+    {"P11 00000051 A00F0000 0 0 0 .", 5, 7, 0},
+    {"P11 00000051 A00F0000 0000FFFF 0000FFFE 7FFFFFFE FFFFFFFF .", 0, 0, 1},
+    {"V1 0001FFFE 0000FFFF .", 0, 0, 0},
+    {"P14 7FFFFFFE .", 5, 1, 0},
+    {"P14 . .", 11, 2, 0},
+    {"P14 00000000", 5, 2, 0},
+    /* BITS: size, predicate, controls and the reserved bits */
+    {"V1 02000001 800F0000 A0E40000 .", 4, 1, 0},
+    {"V1 02000001 800F0000", 4, 1, 0},
+    {"V1 10000001 800F0000 A0E40000 .", 4, 1, 0},
+    {"V1 10000001 .", 4, 1, 0},
+    {"P11 00010042 B00F0000 .", 4, 1, 0},
+    {"P14 00020042 800F0000 B0E40000 .", 4, 1, 0},
+    {"P11 20000000 .", 4, 1, 0},
+    {"P11 80000000 .", 4, 1, 0},
+    {"V1 20000000 .", 4, 1, 0},
+    {"V1 80000000 .", 4, 1, 0},
+    {"V1 40000000 .", 4, 1, 0},
+    {"V1 02000060 .", 3, 1, 0},
+    /* co-issue on every pixel instruction, but not on END; of a comment it is length */
+    {"P14 4000FFFD 40000000 .", 0, 0, 2},
+    {"P11 40000042 B00F0000 .", 0, 0, 1},
+    {"P12 40000051 A00F0000 0 0 0 0 .", 0, 0, 1},
+    {"P13 40000001 800F0000 B0E40000 .", 0, 0, 1},
+    {"P11 4000FFFF", 4, 1, 0},
+    {"P14 4000FFFF", 4, 1, 0},
+    {"P14 4000FFFF 00000000", 4, 1, 0},
+    {"P11 4001FFFE 00000000 .", 5, 1, 0},
+    {"P2 40000000 .", 4, 1, 0},
+    {"P3 42000001 800F0000 A0E40000 .", 4, 1, 0},
+    /* PHASE: ps_1_4, once, counted */
+    {"P14 0000FFFD .", 0, 0, 1},
+    {"P14 0000FFFD 0000FFFD .", 9, 2, 0},
+    {"P14 0000FFFD 00000000 0001FFFE 0000FFFD 4000FFFD .", 9, 5, 0},
+    {"P14 0000FFFD 0001FFFD .", 4, 2, 0},
+    {"P14 0000FFFD 0000FFFD 00000061 .", 9, 2, 0},
+    {"P14 0001FFFE 0000FFFD 0000FFFD .", 0, 0, 1},
+    {"P13 0000FFFD .", 3, 1, 0},
+    {"P12 0000FFFD .", 3, 1, 0},
+    {"P11 0000FFFD .", 3, 1, 0},
+    {"V1 0000FFFD .", 3, 1, 0},
+    {"P2 0000FFFD .", 3, 1, 0},
+    {"P14 0000FFFC .", 3, 1, 0},
+    /* the types do not hang on the phase */
+    {"P14 0000FFFD 00000059 80030000 A0E40000 80E40001 .", 0, 0, 2},
+    {"P14 00000057 800F0005 0000FFFD .", 0, 0, 2},
+    {"P14 00000001 800F0000 90E40000 0000FFFD .", 0, 0, 2},
+    {"P14 00000042 800F0000 80E40001 .", 0, 0, 1},
+    /* bit 13 in vs_1_1: at every source, and no token follows */
+    {"V1 00000002 C00F0000 A0E42000 90E40000 .", 0, 0, 1},
+    {"V1 00000002 C00F0000 A0E40000 90E42000 .", 0, 0, 1},
+    {"V1 00000001 800F0000 A0E42000 B0000000 .", 4, 4, 0},
+    {"V1 00000001 800F2000 A0E40000 .", 7, 2, 0},
+    {"V1 00000001 C00F2000 A0E40000 .", 7, 2, 0},
+    {"V1 00000001 800F0000 B0E42000 .", 8, 3, 0},
+    {"V1 00000051 A00F2000 0 0 0 0 .", 7, 2, 0},
+    {"P11 00000001 800F0000 A0E42000 .", 7, 3, 0},
+    {"P14 00000001 800F0000 A0E42000 .", 7, 3, 0},
+    {"P14 00000001 800F2000 A0E40000 .", 7, 2, 0},
+    /* the shift scale: every destination of ps_1_x, and no other */
+    {"P11 00000001 810F0000 A0E40000 .", 0, 0, 1},
+    {"P11 00000001 870F0000 A0E40000 .", 0, 0, 1},
+    {"P11 00000001 8D0F0000 A0E40000 .", 0, 0, 1},
+    {"P12 00000051 AF0F0000 0 0 0 0 .", 0, 0, 1},
+    {"P13 00000042 BD0F0000 .", 0, 0, 1},
+    {"P14 00000042 8D0F0000 B0E40000 .", 0, 0, 1},
+    {"P11 00000041 BD0F0000 .", 0, 0, 1},
+    {"P14 00000041 8E0F0000 .", 0, 0, 1},
+    {"V1 00000001 810F0000 A0E40000 .", 7, 2, 0},
+    {"V1 00000051 A10F0000 0 0 0 0 .", 7, 2, 0},
+    {"V1 0000001F 80000000 910F0000 .", 7, 3, 0},
+    {"V2 02000001 810F0000 A0E40000 .", 7, 2, 0},
+    {"P2 02000001 810F0000 A0E40000 .", 7, 2, 0},
+    {"P3 02000001 8D0F0000 A0E40000 .", 7, 2, 0},
+    /* the other bits of a destination */
+    {"P11 00000001 806F0000 8BE40000 .", 0, 0, 1},
+    {"P11 00000001 807F0000 8CE40000 .", 0, 0, 1},
+    {"P11 00000001 808F0000 80E40000 .", 7, 2, 0},
+    {"P11 00000001 800F4000 80E40000 .", 7, 2, 0},
+    {"P11 00000001 000F0000 80E40000 .", 7, 2, 0},
+    {"V1 00000001 801F0000 8BE40000 .", 0, 0, 1},
+    {"V1 00000001 802F0000 80E40000 .", 7, 2, 0},
+    {"V1 00000001 804F0000 80E40000 .", 7, 2, 0},
+    /* modifiers: 7 to A in ps_1_4 alone, D nowhere */
+    {"P13 00000001 800F0000 A7E40000 .", 7, 3, 0},
+    {"P14 00000001 800F0000 A7E40000 .", 0, 0, 1},
+    {"P14 00000042 800F0000 BAE40000 .", 0, 0, 1},
+    {"P14 00000001 800F0000 ACE40000 .", 0, 0, 1},
+    {"P14 00000001 800F0000 ADE40000 .", 7, 3, 0},
+    {"P14 00000001 800F0000 BDE41000 .", 8, 3, 0},
+    {"P14 00000001 800F0000 AEE40000 .", 7, 3, 0},
+    {"P14 00000001 800F0000 AFE40000 .", 7, 3, 0},
+    {"V1 00000001 800F0000 BDE41000 .", 8, 3, 0},
+    {"V1 00000001 800F0000 A7E40000 .", 7, 3, 0},
+    {"V1 00000001 800F0000 ADE40000 .", 7, 3, 0},
+    {"P2 02000001 800F0000 A7E40000 .", 7, 3, 0},
+    /* TEX and TEXCOORD: a source in ps_1_4, and one */
+    {"P11 00000042 B00F0000 .", 0, 0, 1},
+    {"P13 00000042 B00F0000 B0E40000 .", 4, 3, 0},
+    {"P11 00000042 800F0000 .", 8, 2, 0},
+    {"P14 00000042 800F0000 B0E40000 .", 0, 0, 1},
+    {"P14 00000042 800F0000 B0E40000 A0E40800 .", 3, 4, 0},
+    {"P14 00000042 B00F0000 B0E40000 .", 8, 2, 0},
+    {"P14 00000042 800F0000 A0E40000 .", 8, 3, 0},
+    {"P14 00000042 800F0000 .", 7, 3, 0},
+    {"P14 00000042 800F0000", 5, 1, 0},
+    {"P12 00000040 B00F0001 .", 0, 0, 1},
+    {"P14 00000040 80070001 B0E40001 .", 0, 0, 1},
+    {"P14 00000040 B0070001 B0E40001 .", 8, 2, 0},
+    {"P14 00000040 80070001", 5, 1, 0},
+    {"V1 00000042 B00F0000 .", 3, 1, 0},
+    /* DCL in vs_1_1 as in vs_2_0 */
+    {"V1 0000001F 80000000 900F0000 .", 0, 0, 1},
+    {"V1 0000001F 800F000D 901F0003 .", 0, 0, 1},
+    {"V1 0000001F 8000000E 900F0000 .", 7, 2, 0},
+    {"V1 0000001F 00000000 900F0000 .", 7, 2, 0},
+    {"V1 0000001F 00000000 800F0000 .", 8, 3, 0},
+    {"V1 0000001F 80000000 900F2000 .", 7, 3, 0},
+    {"V1 0000001F 80000000 E00F0000 .", 8, 3, 0},
+    {"V1 0000001F 90000000 A00F0800 .", 8, 3, 0},
+    {"V1 0000001F 80000000", 5, 1, 0},
+    {"V1 0000001F", 5, 1, 0},
+    {"V1 0200001F 80000000 900F0000 .", 4, 1, 0},
+    {"P11 0000001F 80000000 900F0000 .", 3, 1, 0},
+    {"P14 0000001F 80000000 900F0000 .", 3, 1, 0},
+    /* the cells that could be otherwise, in the order of docs/DECISIONS.md */
+    {"V1 00000001 B0010000 A0E40000 .", 0, 0, 1},
+    {"V1 00000002 B0010000 A0E40000 A0E40000 .", 8, 2, 0},
+    {"V1 00000001 800F0000 B0E40800 .", 0, 0, 1},
+    {"P11 00000001 800F0000 B0E40800 .", 8, 3, 0},
+    {"V1 00000051 B00F0800 00000000 00000000 00000000 00000000 .", 0, 0, 1},
+    {"P14 00000051 D00F0800 00000000 00000000 00000000 00000000 .", 0, 0, 1},
+    {"V2 05000051 B00F0800 00000000 00000000 00000000 00000000 .", 8, 2, 0},
+    {"P11 00000041 800F0000 .", 0, 0, 1},
+    {"P14 00000041 B00F0000 .", 0, 0, 1},
+    {"P11 00000041 A00F0000 .", 8, 2, 0},
+    {"P11 00000050 800F0000 A0E40000 A0E40000 A0E40000 .", 8, 3, 0},
+    {"P13 00000050 800F0000 80FF0000 B0E40000 A0E40000 .", 0, 0, 1},
+    {"P14 00000050 800F0000 A0E40000 A0E40000 A0E40000 .", 0, 0, 1},
+    {"P14 00000001 800F0000 B0E40000 .", 8, 3, 0},
+    {"P13 00000001 800F0000 B0E40000 .", 0, 0, 1},
+    {"P14 00000040 800F0000 80E40000 .", 8, 3, 0},
+    {"P14 00000059 80030000 A0E40000 80E40001 .", 0, 0, 1},
+    {"P14 00000059 80030000 80E40001 A0E40000 .", 8, 4, 0},
+    {"P14 00000059 80030000 90E40000 80E40001 .", 8, 3, 0},
+    {"V1 00000003 800F0000 A0E40000 A0E40001 .", 0, 0, 1},
+    {"V1 00000013 80030000 80E40000 .", 0, 0, 1},
+    {"P11 00000013 800F0000 80E40000 .", 3, 1, 0},
+    {"P11 00000009 800F0000 A0E40000 A0E40000 .", 3, 1, 0},
+    {"P12 00000009 800F0000 A0E40000 A0E40000 .", 0, 0, 1},
+    {"V1 00000014 800F0000 90E40000 80E40000 .", 0, 0, 1},
+    {"V1 00000012 800F0000 90E40000 80E40000 80E40000 .", 3, 1, 0},
+    {"P11 00000043 B00F0001 80E40000 .", 8, 3, 0},
+    {"P11 00000043 800F0001 B0E40000 .", 8, 2, 0},
+    /* types that only some of the five take */
+    {"P13 00000002 B00F0000 B0E40000 90E40000 .", 0, 0, 1},
+    {"P14 00000002 B00F0000 80E40000 90E40000 .", 8, 2, 0},
+    {"V1 00000001 D00F0001 90E40000 .", 0, 0, 1},
+    {"V1 00000001 800F0800 90E40000 .", 8, 2, 0},
+    {"P14 00000001 800F0800 90E40000 .", 8, 2, 0},
+    {"P11 0000004C B00F0003 B4E40000 80E40000 .", 8, 4, 0},
+    {"P14 0000004C 800F0003 80E40000 A0E40000 .", 3, 1, 0},
+    {"P13 00000054 B00F0002 B0E40000 .", 0, 0, 1},
+    {"P12 00000054 B00F0002 B0E40000 .", 3, 1, 0},
+    {"P14 00000057 800F0005 .", 0, 0, 1},
+    {"P14 00000057 B00F0005 .", 8, 2, 0},
+    {"P13 00000057 800F0005 .", 3, 1, 0},
+    {"P11 00000058 800F0000 80E40000 80E40000 80E40000 .", 3, 1, 0},
+    {"P12 00000058 800F0000 80E40000 80E40000 80E40000 .", 0, 0, 1},
+    {"P13 0000004B B00F0000 .", 3, 1, 0},
 };
 
 static void run_checks(void)
@@ -311,7 +507,8 @@ static void run_checks(void)
 static struct second_verdict check_declaration(uint32_t version, uint32_t type, uint32_t u)
 {
     const uint32_t destination = 0x800F0000 | (type & 7) << 28 | (type >> 3) << 11;
-    const uint32_t tokens[] = {version, 0x0200001F, u, destination, 0x0000FFFF};
+    const uint32_t declares = (version & 0xFF00) == 0x0100 ? 0x0000001F : 0x0200001F;
+    const uint32_t tokens[] = {version, declares, u, destination, 0x0000FFFF};
 
     return second_check(tokens, sizeof tokens / sizeof *tokens);
 }
@@ -321,6 +518,7 @@ static void run_usages(void)
 {
     static const struct { uint32_t version, type; } places[] = {
         {0xFFFE0200, 1}, {0xFFFE0300, 1}, {0xFFFE0300, 6}, {0xFFFF0300, 1}, {0xFFFF0300, 3},
+        {0xFFFE0101, 1},
     };
 
     for (size_t k = 0; k < sizeof places / sizeof *places; k++) {
@@ -337,6 +535,41 @@ static void run_usages(void)
                 check_declaration(version, type, 0x8001000A ^ UINT32_C(1) << bit);
             say(bit >= 16 && bit <= 19 ? got.number == 0 && got.instructions == 1
                                        : got.number == 7 && got.position == 2, "a bit of U");
+        }
+    }
+}
+
+/* Document 02, Q-4: each bit and each value of a field, in the five versions. */
+static void run_first_versions(void)
+{
+    static const uint32_t versions[] = {0xFFFE0101, 0xFFFF0101, 0xFFFF0102, 0xFFFF0103, 0xFFFF0104};
+
+    for (size_t k = 0; k < sizeof versions / sizeof *versions; k++) {
+        const bool pixel = k > 0, is_1_4 = k == 4;
+        uint32_t tokens[] = {versions[k], 0x00000001, 0x800F0000, 0x80E40000, 0x0000FFFF};
+        struct second_verdict got;
+
+        for (unsigned bit = 16; bit < 32; bit++) {
+            tokens[1] = 0x00000001 | UINT32_C(1) << bit;
+            got = second_check(tokens, 5);
+            say(pixel && bit == 30 ? got.number == 0 : got.number == 4 && got.position == 1,
+                "a bit of an instruction token of 1_x");
+        }
+        tokens[1] = 0x00000001;
+        for (uint32_t value = 0; value < 16; value++) {
+            tokens[2] = 0x800F0000 | value << 24;
+            got = second_check(tokens, 5);
+            say(pixel || value == 0 ? got.number == 0 : got.number == 7 && got.position == 2, "a shift scale");
+            tokens[2] = 0x800F0000 | value << 20;
+            got = second_check(tokens, 5);
+            say(value <= (pixel ? 7u : 1u) ? got.number == 0 : got.number == 7 && got.position == 2,
+                "a result modifier of 1_x");
+            tokens[2] = 0x800F0000;
+            tokens[3] = 0x80E40000 | value << 24;
+            got = second_check(tokens, 5);
+            say(value <= 6 || value == 0xB || value == 0xC || (is_1_4 && value <= 0xC)
+                    ? got.number == 0 : got.number == 7 && got.position == 3, "a modifier of 1_x");
+            tokens[3] = 0x80E40000;
         }
     }
 }
@@ -448,6 +681,26 @@ static const struct edit_piece edit_pieces[] = {
      "P3 0200001F 8001000A 900F0000 ."},
     {"P3 0200001F 8001000A 900F0000 .", 0, 1, 4, "0200001F 8001000E 900F0000", REFUSED, 7, 2,
      "P3 0200001F 8001000A 900F0000 ."},
+    /* the same PHASE state, besides the same blocks */
+    {"P14 0000FFFD 00000000 .", 0, 1, 2, "", ACCEPTED, 0, 0, "P14 00000000 . ."},
+    {"P14 00000000 .", 1, 1, 1, "0000FFFD", ACCEPTED, 0, 0, "P14 0000FFFD 00000000 ."},
+    {"P14 00000000 .", 1, 2, 2, "0000FFFD", ACCEPTED, 0, 0, "P14 00000000 0000FFFD ."},
+    {"P14 0000FFFD 00000000 .", 0, 1, 2, "4000FFFD", JOINED, 0, 0, "P14 4000FFFD 00000000 ."},
+    {"P14 0000FFFD 00000000 .", 1, 2, 2, "00000000", JOINED, 0, 0, "P14 0000FFFD 00000000 00000000 ."},
+    {"P14 0000FFFD 00000000 .", 0, 1, 3, "00000000 0000FFFD", JOINED, 0, 0, "P14 00000000 0000FFFD ."},
+    {"P14 0000FFFD 00000000 .", 1, 2, 2, "0000FFFD", REFUSED, 9, 2, "P14 0000FFFD 00000000 ."},
+    {"P14 00000000 0000FFFD .", 1, 1, 1, "0000FFFD", REFUSED, 9, 3, "P14 00000000 0000FFFD ."},
+    {"P14 0000FFFD 0000FFFD .", 0, 1, 2, "", ACCEPTED, 0, 0, "P14 0000FFFD . ."},
+    {"P14 0000FFFD 0000FFFD .", 0, 2, 2, "", JOINED, 0, 0, "P14 0000FFFD 0000FFFD ."},
+    {"P14 0000FFFD 0000FFFD .", 0, 2, 3, "", REFUSED, 12, 0, "P14 0000FFFD 0000FFFD ."},
+    {"P13 00000000 .", 1, 1, 1, "0000FFFD", REFUSED, 3, 1, "P13 00000000 ."},
+    /* what the run's last opcode takes is not in the run */
+    {"V1 00000000 00000000 .", 2, 1, 1, "00000001 800F0000", REFUSED, 7, 3, "V1 00000000 00000000 ."},
+    {"P11 00000000 00000000 .", 4, 1, 1, "00000051 A00F0000 0 0", ACCEPTED, 0, 0,
+     "P11 00000051 A00F0000 0 0 00000000 00000000 ."},
+    {"V1 00000001 800F0000 A0E40000 .", 0, 1, 4, "00000001 C00F0000 A0E42000", JOINED, 0, 0,
+     "V1 00000001 C00F0000 A0E42000 ."},
+    {"V1 00000001 800F0000 A0E40000 .", 0, 2, 4, "", REFUSED, 12, 0, "V1 00000001 800F0000 A0E40000 ."},
     /* equal depth, other blocks */
     {"V3 01000028 E0E40800 0000002B .", 0, 1, 3, "01000026 F0E40000", REFUSED, 9, 3,
      "V3 01000028 E0E40800 0000002B ."},
@@ -629,6 +882,100 @@ static void run_records(void)
     written = second_write(P3, &read.record, NULL, 0, out, 3, 0);
     say(written.number == 14 && memcmp(out, tokens, 12) == 0, "write usage 14");
 
+    /* co-issue and the shift scale */
+    const uint32_t V1 = 0xFFFE0101, P11 = 0xFFFF0101, P13 = 0xFFFF0103, P14 = 0xFFFF0104, P2 = 0xFFFF0200;
+    count = parse("40000001 8D3F0003 A1E40002", tokens);
+    read = second_read(P11, tokens, count, 0);
+    say(read.number == 0 && read.next == 3 && read.record.opcode == 1 && read.record.coissue == 1
+            && read.record.predicated == 0 && read.record.operands[0].number == 3
+            && read.record.operands[0].shift == 0xD && read.record.operands[0].result == 3
+            && read.record.operands[0].modifier == 0 && read.record.operands[1].modifier == 1
+            && read.record.operands[1].shift == 0, "read co-issue and a shift scale");
+    written = second_write(P11, &read.record, NULL, 0, out, 3, 0);
+    say(written.number == 0 && written.next == 3 && memcmp(out, tokens, 12) == 0, "write co-issue and a shift scale");
+    written = second_write(P11, &read.record, NULL, 0, out, 2, 0);
+    say(written.number == 13, "write it without room");
+    say(second_write(V1, &read.record, NULL, 0, out, 3, 0).number == 14, "write it in vs_1_1");
+    say(second_write(P2, &read.record, NULL, 0, out, 3, 0).number == 14, "write it in ps_2_0");
+    struct second_record other = read.record;
+    other.coissue = 2;
+    say(second_write(P11, &other, NULL, 0, out, 3, 0).number == 14, "write co-issue 2");
+    other.coissue = 0;
+    say(second_write(P11, &other, NULL, 0, out, 3, 0).number == 0 && out[0] == 0x00000001, "write it without co-issue");
+    say(second_write(P2, &other, NULL, 0, out, 3, 0).number == 14, "write a shift scale in ps_2_0");
+    other.operands[0].shift = 16;
+    say(second_write(P11, &other, NULL, 0, out, 3, 0).number == 14, "write shift scale 16");
+    other.operands[0].shift = 0;
+    say(second_write(P2, &other, NULL, 0, out, 3, 0).number == 0 && out[0] == 0x02000001, "write the rest in ps_2_0");
+    say(second_write(P11, &other, NULL, 0, out, 3, 0).number == 0 && out[0] == 0x00000001, "write no size in ps_1_1");
+    other.operands[1].shift = 1;
+    say(second_write(P11, &other, NULL, 0, out, 3, 0).number == 14, "write a source with a shift scale");
+    other.operands[1].shift = 0;
+    other.operands[0].modifier = 1;
+    say(second_write(P11, &other, NULL, 0, out, 3, 0).number == 14, "write a destination with a modifier");
+    other = read.record;
+    other.predicated = 1;
+    other.operands[5].type = 19;
+    say(second_write(P11, &other, NULL, 0, out, 5, 0).number == 14, "write a predicated one in ps_1_1");
+
+    /* bit 13 in vs_1_1 */
+    count = parse("00000002 C00F0000 A0E42007 90E40000", tokens);
+    read = second_read(V1, tokens, count, 0);
+    say(read.number == 0 && read.next == 4 && read.record.coissue == 0 && read.record.operands[1].relative == 1
+            && read.record.operands[1].relative_number == 0 && read.record.operands[1].relative_type == 0
+            && read.record.operands[1].relative_swizzle == 0 && read.record.operands[2].relative == 0
+            && read.record.operands[2].type == 1, "read bit 13 in vs_1_1");
+    written = second_write(V1, &read.record, NULL, 0, out, 4, 0);
+    say(written.number == 0 && written.next == 4 && memcmp(out, tokens, 16) == 0, "write bit 13 in vs_1_1");
+    say(second_write(V2, &read.record, NULL, 0, out, 8, 0).number == 14, "write it in vs_2_0");
+    other = read.record;
+    other.operands[1].relative = 2;
+    say(second_write(V1, &other, NULL, 0, out, 8, 0).number == 14, "write relative 2 in vs_1_1");
+    other = read.record;
+    other.operands[1].relative_type = 3;
+    say(second_write(V1, &other, NULL, 0, out, 8, 0).number == 14, "write a relative token in vs_1_1");
+    say(second_write(V2, &other, NULL, 0, out, 8, 0).number == 0 && out[0] == 0x04000002 && out[3] == 0xB0000000,
+        "write that one in vs_2_0");
+    other = read.record;
+    other.operands[1].relative_number = 1;
+    say(second_write(V1, &other, NULL, 0, out, 8, 0).number == 14, "write a relative number in vs_1_1");
+    other = read.record;
+    other.operands[1].relative_swizzle = 1;
+    say(second_write(V1, &other, NULL, 0, out, 8, 0).number == 14, "write a relative swizzle in vs_1_1");
+    other = read.record;
+    other.operands[0].relative = 1;
+    say(second_write(V1, &other, NULL, 0, out, 8, 0).number == 14, "write a relative destination in vs_1_1");
+
+    /* PHASE, END and a comment with co-issue */
+    count = parse("4000FFFD 4001FFFE 4000FFFF 0000FFFD", tokens);
+    read = second_read(P14, tokens, count, 0);
+    say(read.number == 0 && read.next == 1 && read.record.opcode == 0xFFFD && read.record.coissue == 1, "read PHASE");
+    say(second_write(P14, &read.record, NULL, 0, out, 1, 0).number == 0 && out[0] == 0x4000FFFD, "write PHASE");
+    say(second_write(P13, &read.record, NULL, 0, out, 1, 0).number == 14, "write PHASE in ps_1_3");
+    read = second_read(P14, tokens, count, 3);
+    say(read.number == 0 && read.next == 4 && read.record.coissue == 0, "read a PHASE again: the reader knows no walk");
+    read = second_read(P13, tokens, count, 3);
+    say(read.number == 3 && read.position == 3, "read PHASE in ps_1_3");
+    read = second_read(P14, tokens, count, 1);
+    say(read.number == 5 && read.position == 1, "bit 30 of a comment is length");
+    read = second_read(P14, tokens, count, 2);
+    say(read.number == 4 && read.position == 2, "END has no co-issue");
+    const struct second_record stray_end = {.opcode = 0xFFFF, .coissue = 1};
+    say(second_write(P14, &stray_end, NULL, 0, out, 1, 0).number == 14, "write END with co-issue");
+    const struct second_record stray_comment = {.opcode = 0xFFFE, .coissue = 1};
+    say(second_write(P14, &stray_comment, NULL, 0, out, 1, 0).number == 14, "write a comment with co-issue");
+    count = parse("00000042 800F0000 B0E40000", tokens);
+    read = second_read(P14, tokens, count, 0);
+    say(read.number == 0 && read.next == 3, "read TEX in ps_1_4");
+    say(second_write(P14, &read.record, NULL, 0, out, 3, 0).number == 0 && memcmp(out, tokens, 12) == 0, "write TEX in ps_1_4");
+    say(second_write(P13, &read.record, NULL, 0, out, 3, 0).number == 14, "write it in ps_1_3");
+    say(second_read(P14, tokens, 2, 0).number == 5, "read TEX cut short");
+    count = parse("0000001F 8001000A 900F0003", tokens);
+    read = second_read(V1, tokens, count, 0);
+    say(read.number == 0 && read.next == 3 && read.record.operands[0].raw == 0x8001000A
+            && read.record.operands[1].number == 3 && read.record.operands[1].type == 1, "read DCL in vs_1_1");
+    say(second_write(V1, &read.record, NULL, 0, out, 3, 0).number == 0 && memcmp(out, tokens, 12) == 0, "write DCL in vs_1_1");
+
     struct second_record end = {.opcode = 0xFFFF};
     out[3] = 5;
     written = second_write(V2, &end, NULL, 0, out, 3, 3);
@@ -644,6 +991,7 @@ int main(void)
 {
     run_checks();
     run_usages();
+    run_first_versions();
     run_depth_and_length();
     run_edits();
     run_records();

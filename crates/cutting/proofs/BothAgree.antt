@@ -25,12 +25,12 @@ module _ (s : List ℕ) (n : ℕ) (v : Version) (name : named (getD s 0 0) ≡ K
 
   module _ (accept : verdict s ≡ Accepted n) where
     -- an accepted stream's chunks by stated sizes alone are its cutting, and so are its chunks by operands alone
-    pub both-cut : (classes : List Class) × Cutting v (drop 1 s) (bySizes (drop 1 s)) classes × Cutting v (drop 1 s) (byOperands v (drop 1 s)) classes
+    pub both-cut : (classes : List Class) × Cutting v (drop 1 s) (bySizes v (drop 1 s)) classes × Cutting v (drop 1 s) (byOperands v (drop 1 s)) classes
     both-cut =
         let c = accepted-is-a-cutting s n accept in
         let k = under c in
         (c .classes, rw (sizes-cut v (drop 1 s) (c .chunks) (c .classes) k) k, rw (operands-cut v (drop 1 s) (c .chunks) (c .classes) k) k)
 
     -- an accepted stream is cut the same by stated sizes alone and by operands alone
-    pub both-agree : bySizes (drop 1 s) ≡ byOperands v (drop 1 s)
+    pub both-agree : bySizes v (drop 1 s) ≡ byOperands v (drop 1 s)
     both-agree = let b = both-cut in sizes-cut v (drop 1 s) (byOperands v (drop 1 s)) (b .0) (b .2)

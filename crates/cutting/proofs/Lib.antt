@@ -6,3 +6,4 @@ pub mod AcceptedIsACutting
 pub mod SizesCut
 pub mod OperandsCut
 pub mod BothAgree
+pub mod OpcodeAlone

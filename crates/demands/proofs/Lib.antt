@@ -2,6 +2,7 @@
 pub mod WhereRefused
 pub mod NumbersAndPositions
 pub mod Demand1
+pub mod Sizeless
 pub mod OneReading
 pub mod ChunksRead
 pub mod Demand2

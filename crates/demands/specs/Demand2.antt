@@ -33,7 +33,7 @@ pub record CutOneWay (version : Version) (tokens : List ℕ) (chunks : List (Lis
   -- every cutting of these tokens into lawful chunks, nested or not, has these chunks and these classes
   pub oneCutting : (others : List (List ℕ)) (kinds : List Class) → Cutting version tokens others kinds → (others ≡ chunks) × (kinds ≡ classes)
   -- a jump by stated sizes alone gives them, as a driver makes it
-  pub bySizesAlone : bySizes tokens ≡ chunks
+  pub bySizesAlone : bySizes version tokens ≡ chunks
   -- and so do the operands alone, where no stated size is looked at
   pub byOperandsAlone : byOperands version tokens ≡ chunks
 

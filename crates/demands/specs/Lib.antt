@@ -4,3 +4,4 @@ pub mod Reading
 pub mod Demand2
 pub mod Demand3
 pub mod Nesting
+pub mod Sizeless

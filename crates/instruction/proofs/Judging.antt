@@ -2,7 +2,7 @@
 use mathlib.Core.Path.{_≡_, refl, sym, ap, _∙_}
 use mathlib.Core.Bool.{Bool, true, false}
 use mathlib.Core.List.{List, [], _∷_}
-use Prim.Native.Nat.{ℕ, _+_, _-_, _<_, _≤_}
+use Prim.Native.Nat.{ℕ, _+_, _-_, _<_}
 use native.Mathlib.Nat.{add-zero}
 use native.Mathlib.Omega.{arith}
 use lib.Dec.{leb, leb·zero}
@@ -20,12 +20,13 @@ use Rattle.paper.specs.declared.Reason.the-variants.{Bits as BITS, RunOut as RU
 use Rattle.paper.specs.declared.Judged.the-variants.{Refused}
 use Rattle.paper.proofs.Bools.{apart}
 use Rattle.paper.proofs.FirstToken.{stray-comment, stray-end, no-row, stray-bits, Says, is-broken, is-comment, is-end, is-listed, says, fifteen}
-use Rattle.opcodes.specs.Classes.{classNumber}
-use Rattle.opcodes.specs.Shape.{shapeOf, classIn}
-use Rattle.opcodes.proofs.Shapes.{shape-absent, shape-zero, shape-class}
-use Rattle.opcodes.proofs.Table.{beyond}
+use Rattle.shapes.specs.Classes.{classNumber}
+use Rattle.shapes.specs.Shape.{shapeOf, classIn}
+use Rattle.shapes.proofs.Shapes.{shape-absent, shape-zero, shape-class}
+use Rattle.shapes.proofs.Table.{beyond}
+use Rattle.shapes.proofs.Computed.{Beyond}
 use Rattle.instruction_token.specs.ByShape.{bitsBy}
-use Rattle.instruction_token.proofs.ByShape.{bits-by, places-back}
+use Rattle.instruction_token.proofs.ByShape.{bits-by, claim-by, places-back}
 use Rattle.instruction.specs.Shown.{listedHead, roomFor, judgedWith, judgedIn, unlistedIn}
 
 module _ (v : Version) (first : ℕ) (behind : List ℕ) (left : ℕ) where
@@ -49,19 +50,25 @@ module _ (v : Version) (first : ℕ) (behind : List ℕ) (left : ℕ) where
     listed-alone : {A : Type 0} → entryOf v (opcodeOf first) ≡ absent → A
     listed-alone e = absurd (some (shape-absent v (opcodeOf first) e))
 
-    beyond-table : {A : Type 0} (opcode : ℕ) → 97 ≤ opcode → opcodeOf first ≡ opcode → A
-    beyond-table opcode h e = listed-alone (ap (entryOf v) e ∙ beyond v opcode h)
+    beyond-table : {A : Type 0} (opcode : ℕ) → Beyond opcode → opcodeOf first ≡ opcode → A
+    beyond-table opcode b e = listed-alone (ap (entryOf v) e ∙ beyond v opcode (b .0) (b .1))
+
+    no-comment : Beyond commentOpcode
+    no-comment = (omega arith, λ e. omega arith)
+
+    no-end : Beyond endOpcode
+    no-end = (omega arith, λ e. omega arith)
 
     shaped-by : (h : Head) → Says v first h → judgedWith v h first behind left ≡
         pick (bitsBy (shapeOf v (opcodeOf first)) first) (byHead v (listedHead (shapeOf v (opcodeOf first)) first) (opcodeOf first) behind)
         (Refused (refusal BITS 0))
-    shaped-by h (is-broken (stray-comment o l)) = beyond-table commentOpcode (omega arith) o
-    shaped-by h (is-broken (stray-end o n)) = beyond-table endOpcode (omega arith) o
+    shaped-by h (is-broken (stray-comment o l)) = beyond-table commentOpcode no-comment o
+    shaped-by h (is-broken (stray-end o n)) = beyond-table endOpcode no-end o
     shaped-by h (is-broken (no-row o e)) = listed-alone e
     shaped-by h (is-broken (stray-bits {places} o e l)) = rw (leb·zero (length behind), bits-by v first places e, l)
-    shaped-by h (is-comment o l) = beyond-table commentOpcode (omega arith) o
-    shaped-by h (is-end n) = beyond-table endOpcode (omega arith) (ap opcodeOf n)
-    shaped-by h (is-listed {places} o e l) = rw (bits-by v first places e, l, places-back v first places e l)
+    shaped-by h (is-comment o l) = beyond-table commentOpcode no-comment o
+    shaped-by h (is-end n) = beyond-table endOpcode no-end (ap opcodeOf n)
+    shaped-by h (is-listed {places} o e l) = rw (bits-by v first places e, l, places-back v first places e l, claim-by v first places e)
 
     pub judged-shaped : judgedIn v first behind left ≡
         pick (bitsBy (shapeOf v (opcodeOf first)) first) (byHead v (listedHead (shapeOf v (opcodeOf first)) first) (opcodeOf first) behind)

@@ -9,7 +9,7 @@ use Rattle.paper.specs.Instruction.{onOperands}
 use Rattle.paper.specs.declared.Class.{Class}
 use Rattle.paper.specs.declared.Operands.{Operands}
 use Rattle.paper.specs.declared.Operands.the-variants.{Fit, Refused as unfit}
-use Rattle.opcodes.specs.Classes.{classNumber}
+use Rattle.shapes.specs.Classes.{classNumber}
 use Rattle.told.specs.Numbered.{yesNumber, judgedNumber, operandsNumber}
 
 -- operands of which 0 is told take an instruction's tokens

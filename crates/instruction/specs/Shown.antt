@@ -5,7 +5,7 @@ use lib.Dec.{eqb, leb}
 use lib.ListN.{length, take}
 use Rattle.paper.specs.Notation.{pick}
 use Rattle.paper.specs.Numbers.{refusal}
-use Rattle.paper.specs.InstructionToken.{opcodeOf, statedSize, commentOpcode, commentLength, commentLaid, endOpcode, endToken}
+use Rattle.paper.specs.InstructionToken.{opcodeOf, commentOpcode, commentLength, commentLaid, endOpcode, endToken}
 use Rattle.paper.specs.Instruction.{Head, broken, end, comment, operation, tokenHead, claim, onClaimed}
 use Rattle.paper.specs.Places.{Place}
 use Rattle.paper.specs.declared.Version.{Version}
@@ -16,14 +16,14 @@ use Rattle.paper.specs.declared.Class.the-variants.{One, Closes}
 use Rattle.paper.specs.declared.Judged.{Judged}
 use Rattle.paper.specs.declared.Judged.the-variants.{Good, Refused}
 use Rattle.places.specs.Places.{decoded}
-use Rattle.instruction_token.specs.ByShape.{placesBy}
+use Rattle.instruction_token.specs.ByShape.{claimBy, placesBy}
 
 -- what a first token says whose opcode has this shape, and whose bits are as they must be
 abbrev pub placesIn : ℕ → ℕ → List Place
 placesIn shape first = decoded (placesBy shape first)
 
 abbrev pub listedHead : ℕ → ℕ → Head
-listedHead shape first = operation (placesIn shape first) (statedSize first)
+listedHead shape first = operation (placesIn shape first) (claimBy shape first)
 
 -- Of the tokens behind an instruction's first one, these are shown and so many are left in all. A comment claims tokens that need not be
 -- shown; what another instruction claims must be.

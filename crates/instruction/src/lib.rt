@@ -1,15 +1,16 @@
 // One instruction, judged on its own tokens: document 01, "The numbers given back", the order within one instruction.
 ghost use mathlib.Core.Path.{_≡_};
-ghost use Prim.Native.Nat.{_+_};
+ghost use Prim.Native.Nat.{_+_, _<_};
 ghost use lib.Dec.{leb};
 ghost use lib.ListN.{length};
 ghost use Rattle.paper.specs.InstructionToken.{opcodeOf};
 ghost use Rattle.paper.specs.Blocks.{classOf};
-ghost use Rattle.paper.specs.Instruction.{operandsOf, byHead};
-ghost use Rattle.opcodes.specs.Classes.{classNumber};
-ghost use Rattle.opcodes.specs.Shape.{classIn};
+ghost use Rattle.paper.specs.Instruction.{operation, operandsOf, byHead};
+ghost use Rattle.shapes.specs.Classes.{classNumber};
+ghost use Rattle.shapes.specs.Shape.{classIn};
 ghost use Rattle.told.specs.Numbered.{operandsNumber, judgedNumber};
-ghost use Rattle.instruction.specs.Shown.{placesIn, listedHead, judgedIn, unlistedIn};
+ghost use Rattle.instruction.specs.Shown.{placesIn, judgedIn, unlistedIn};
+ghost use Rattle.instruction_token.specs.ByShape.{noClaim};
 use paper::Reason;
 use paper::Version;
 
@@ -23,12 +24,11 @@ fn judge_claimed(version: Version, shape: u64, first: u32, behind: &[u32]) -> u6
     operands::judge_operands(version, instruction_token::places_of(shape, first), behind)
 }
 
-// An instruction whose opcode has this shape, where the bits of its first token are as they must be.
-fn judge_listed(version: Version, shape: u64, first: u32, behind: &[u32]) -> u64
-    requires { ⌜ classIn shape ≡ classNumber (classOf (opcodeOf first)) ⌝ }
-    ensures { λ r. ⌜ r ≡ judgedNumber (byHead version (listedHead shape first) (opcodeOf first) (now (behind .entry))) ⌝ }
+// An instruction whose opcode has this shape, and which claims so many tokens.
+fn judge_listed(version: Version, shape: u64, first: u32, claim: u32, behind: &[u32]) -> u64
+    requires { ⌜ (classIn shape ≡ classNumber (classOf (opcodeOf first))) × (claim < noClaim) ⌝ }
+    ensures { λ r. ⌜ r ≡ judgedNumber (byHead version (operation (placesIn shape first) claim) (opcodeOf first) (now (behind .entry))) ⌝ }
 {
-    let claim = instruction_token::claim_of(first);
     let size = claim as usize;
     let shown = behind.len();
     if shown < size {
@@ -36,7 +36,7 @@ fn judge_listed(version: Version, shape: u64, first: u32, behind: &[u32]) -> u64
     }
     let told = judge_claimed(version, shape, first, &behind[..size]);
     if told == told::FIT {
-        return told::yes(claim, opcodes::class_in(shape));
+        return told::yes(claim, shapes::class_in(shape));
     }
     told
 }
@@ -84,8 +84,9 @@ pub fn judge_first(version: Version, first: u32, behind: &[u32], beyond: usize) 
     if shape == 0 {
         return judge_unlisted(first, behind.len(), beyond);
     }
-    if instruction_token::bits_laid(shape, first) {
-        return judge_listed(version, shape, first, &behind[0..]);
+    let claim = instruction_token::claim_of(shape, first);
+    if claim < instruction_token::NO_CLAIM {
+        return judge_listed(version, shape, first, claim, &behind[0..]);
     }
     told::refused_first(Reason::Bits)
 }

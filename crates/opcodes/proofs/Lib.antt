@@ -1,5 +1,2 @@
--- What the proofs of the functions share, and the laws that callers use.
-pub mod Computed
+-- What the proofs of the functions share.
 pub mod Table
-pub mod Shapes
-pub mod DestinationFirst

@@ -1,4 +1,2 @@
--- The opcode table as the code looks it up.
-pub mod Classes
-pub mod Shape
+-- Document 01's table of opcodes as the code looks it up.
 pub mod Rows

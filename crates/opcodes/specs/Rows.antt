@@ -4,12 +4,12 @@ use mathlib.Core.List.{List, [], _∷_}
 use lib.Dec.{eqb}
 use lib.ListN.{length}
 use Rattle.paper.specs.Notation.{pick}
-use Rattle.paper.specs.Versions.{versions}
+use Rattle.paper.specs.Versions.{baseVersions}
 use Rattle.paper.specs.declared.Version.{Version}
 use Rattle.paper.specs.declared.Version.the-variants.{V3}
 use Rattle.paper.specs.Places.{entryOf}
 use Rattle.versions.specs.Rows.{rank}
-use Rattle.opcodes.specs.Shape.{shapeIn}
+use Rattle.shapes.specs.Shape.{shapeIn}
 
 -- the shape of an opcode by the letters of a version, predicable as in V3 and P3
 abbrev pub predicableShape : Version → ℕ → ℕ
@@ -21,7 +21,7 @@ firstShape [] opcode = 0
 firstShape (v ∷ vs) opcode = pick (eqb (predicableShape v opcode) 0) (firstShape vs opcode) (predicableShape v opcode)
 
 abbrev pub rowShape : ℕ → ℕ
-rowShape opcode = firstShape versions opcode
+rowShape opcode = firstShape baseVersions opcode
 
 -- the opcode that has one shape in V2 and P2 and another in V3 and P3
 abbrev pub sincos : ℕ
@@ -34,7 +34,7 @@ versionBits (v ∷ vs) opcode shape = pick (eqb (predicableShape v opcode) shape
 
 -- the versions lowest, above them the shape; an opcode that is not in the table has row 0
 abbrev pub shapeFrom : ℕ
-shapeFrom = 2 ^ length versions
+shapeFrom = 2 ^ length baseVersions
 
 unfoldable pub rowOf : ℕ → ℕ
-rowOf opcode = pick (eqb (rowShape opcode) 0) 0 (versionBits versions opcode (rowShape opcode) + shapeFrom * rowShape opcode)
+rowOf opcode = pick (eqb (rowShape opcode) 0) 0 (versionBits baseVersions opcode (rowShape opcode) + shapeFrom * rowShape opcode)

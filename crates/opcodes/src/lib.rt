@@ -1,12 +1,14 @@
-// Document 01's table of opcodes, looked up.
+// The opcodes of every version, looked up: document 01's table, and behind it that of the versions without sizes.
 mod rows;
 
 ghost use mathlib.Core.Path.{_≡_};
-ghost use Rattle.opcodes.specs.Shape.{shapeOf, placesField, predicableIn, ruleIn, classIn};
+ghost use mathlib.Core.Bool.{true};
+ghost use Rattle.paper.specs.Versions.{hasSizes};
+ghost use Rattle.shapes.specs.Shape.{shapeOf};
 ghost use Rattle.opcodes.specs.Rows.{rowOf};
 use paper::Version;
 
-// The row of an opcode; 0 for one that is in no row. One arm for each opcode: only so does it become one table in memory.
+// The row of an opcode in document 01's table; 0 for one that is in no row. One arm for each opcode: only so does it become one table in memory.
 fn row_of(opcode: u32) -> u64
     ensures { λ r. ⌜ r ≡ rowOf opcode ⌝ }
 {
@@ -77,8 +79,9 @@ fn row_of(opcode: u32) -> u64
     }
 }
 
-// The shape of an opcode in a version; 0 where the table does not list it there.
-pub fn shape_of(version: Version, opcode: u32) -> u64
+// The shape of an opcode in a version of document 01.
+fn base_shape(version: Version, opcode: u32) -> u64
+    requires { ⌜ hasSizes version ≡ true ⌝ }
     ensures { λ r. ⌜ r ≡ shapeOf version opcode ⌝ }
 {
     let rank = versions::rank_of(version);
@@ -96,31 +99,15 @@ pub fn shape_of(version: Version, opcode: u32) -> u64
         return shape;
     }
     // "predicated: only V3 and P3": the bit is left out
-    shape / rows::RULE * rows::RULE + shape % rows::PREDICABLE
+    shape / shapes::RULE * shapes::RULE + shape % shapes::PREDICABLE
 }
 
-// The fields of a shape: its places, as one number; whether the instruction may be predicated; the rule of the controls; the number of its
-// class.
-pub fn places_in(shape: u64) -> u64
-    ensures { λ r. ⌜ r ≡ placesField shape ⌝ }
+// The shape of an opcode in a version; 0 where its table does not list it there.
+pub fn shape_of(version: Version, opcode: u32) -> u64
+    ensures { λ r. ⌜ r ≡ shapeOf version opcode ⌝ }
 {
-    shape % rows::PREDICABLE
-}
-
-pub fn may_be_predicated(shape: u64) -> bool
-    ensures { λ r. ⌜ r ≡ predicableIn shape ⌝ }
-{
-    shape / rows::PREDICABLE % 2 == 1
-}
-
-pub fn rule_in(shape: u64) -> u64
-    ensures { λ r. ⌜ r ≡ ruleIn shape ⌝ }
-{
-    shape / rows::RULE % (rows::LISTED / rows::RULE)
-}
-
-pub fn class_in(shape: u64) -> u64
-    ensures { λ r. ⌜ r ≡ classIn shape ⌝ }
-{
-    shape / rows::CLASS
+    if versions::has_sizes(version) {
+        return base_shape(version, opcode);
+    }
+    first_opcodes::shape_of(version, opcode)
 }

@@ -1,43 +1,33 @@
 // The numbers of the table's rows. A row's number: bits 3:0 the versions, each at its rank; above them the shape that the row has in V3 and P3.
 pub(crate) const SHAPE: u64 = 16;
 
-// A shape's number: the bit of an instruction that may be predicated, where its rule of the controls begins, the bit that is one, its class.
-// Below them stand its places.
-pub(crate) const PREDICABLE: u64 = 0x8_0000_0000;
+// What an opcode is to the blocks, as `shapes` numbers it.
+const PLAIN: u64 = shapes::PLAIN;
 
-pub(crate) const RULE: u64 = 0x10_0000_0000;
+const BREAKS: u64 = shapes::LISTED + 2 * shapes::CLASS;
 
-pub(crate) const LISTED: u64 = 0x40_0000_0000;
+const LABELS: u64 = shapes::LISTED + 3 * shapes::CLASS;
 
-// What an opcode is to the blocks, as specs/Classes.antt numbers it.
-pub(crate) const CLASS: u64 = 0x80_0000_0000;
+const RETURNS: u64 = shapes::LISTED + 4 * shapes::CLASS;
 
-const PLAIN: u64 = LISTED + CLASS;
+const OPENS_IF: u64 = shapes::LISTED + 5 * shapes::CLASS;
 
-const BREAKS: u64 = LISTED + 2 * CLASS;
+const OPENS_LOOP: u64 = shapes::LISTED + 6 * shapes::CLASS;
 
-const LABELS: u64 = LISTED + 3 * CLASS;
+const OPENS_REP: u64 = shapes::LISTED + 7 * shapes::CLASS;
 
-const RETURNS: u64 = LISTED + 4 * CLASS;
+const CLOSES_ELSE: u64 = shapes::LISTED + 8 * shapes::CLASS;
 
-const OPENS_IF: u64 = LISTED + 5 * CLASS;
+const CLOSES_IF: u64 = shapes::LISTED + 9 * shapes::CLASS;
 
-const OPENS_LOOP: u64 = LISTED + 6 * CLASS;
+const CLOSES_LOOP: u64 = shapes::LISTED + 10 * shapes::CLASS;
 
-const OPENS_REP: u64 = LISTED + 7 * CLASS;
-
-const CLOSES_ELSE: u64 = LISTED + 8 * CLASS;
-
-const CLOSES_IF: u64 = LISTED + 9 * CLASS;
-
-const CLOSES_LOOP: u64 = LISTED + 10 * CLASS;
-
-const CLOSES_REP: u64 = LISTED + 11 * CLASS;
+const CLOSES_REP: u64 = shapes::LISTED + 11 * shapes::CLASS;
 
 // "Bits 23:16 are 1 to 6 for IFC, BREAKC, SETP; 0 to 2 for TEX"
-const COMPARISON: u64 = RULE;
+const COMPARISON: u64 = shapes::COMPARISON * shapes::RULE;
 
-const TEXTURE: u64 = 2 * RULE;
+const TEXTURE: u64 = shapes::TEXTURE * shapes::RULE;
 
 // The table's last column.
 const ALL: u64 = 0xF;
@@ -69,26 +59,29 @@ const INTEGER: u64 = places::SOURCE + 7;
 
 // The table's second column. Where there is a D, the instruction may be predicated, but for DCL, DEF, DEFI and DEFB. COMPARED serves opcodes
 // of two classes: their rows add the class, as CALL's and LABEL's do.
-const DS: u64 = PLAIN + PREDICABLE + D + NEXT * S;
+const DS: u64 = PLAIN + shapes::PREDICABLE + D + NEXT * S;
 
-const MOVA: u64 = PLAIN + PREDICABLE + places::DESTINATION + 3 + NEXT * S;
+const MOVA: u64 = PLAIN + shapes::PREDICABLE + places::DESTINATION + 3 + NEXT * S;
 
-const DSS: u64 = PLAIN + PREDICABLE + D + NEXT * (S + NEXT * S);
+const DSS: u64 = PLAIN + shapes::PREDICABLE + D + NEXT * (S + NEXT * S);
 
-const SAMPLED: u64 = PLAIN + PREDICABLE + D + NEXT * (S + NEXT * SAMPLER);
+const SAMPLED: u64 = PLAIN + shapes::PREDICABLE + D + NEXT * (S + NEXT * SAMPLER);
 
 const SETP: u64 = PLAIN
     + COMPARISON
-    + PREDICABLE
+    + shapes::PREDICABLE
     + places::DESTINATION
     + 19
     + NEXT * (S + NEXT * S);
 
-const DSSS: u64 = PLAIN + PREDICABLE + D + NEXT * (S + NEXT * (S + NEXT * S));
+const DSSS: u64 = PLAIN + shapes::PREDICABLE + D + NEXT * (S + NEXT * (S + NEXT * S));
 
-const TEXLDD: u64 = PLAIN + PREDICABLE + D + NEXT * (S + NEXT * (SAMPLER + NEXT * (S + NEXT * S)));
+const TEXLDD: u64 = PLAIN
+    + shapes::PREDICABLE
+    + D
+    + NEXT * (S + NEXT * (SAMPLER + NEXT * (S + NEXT * S)));
 
-const TEXKILL: u64 = PLAIN + PREDICABLE + places::KILLED;
+const TEXKILL: u64 = PLAIN + shapes::PREDICABLE + places::WRITTEN_TEXTURE;
 
 const REP: u64 = OPENS_REP + INTEGER;
 

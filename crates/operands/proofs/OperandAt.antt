@@ -8,7 +8,6 @@ use native.Mathlib.Omega.{arith}
 use lib.Dec.{eqb}
 use lib.ListN.{length, drop, getD, length-drop, drop-of-length-le}
 use lib.Seq.{drop-cons, drop-drop}
-use borrow.Author.Tests.{eqb-true}
 use Rattle.paper.proofs.Bools.{apart}
 use Rattle.paper.specs.Notation.{bit, pick}
 use Rattle.paper.specs.Numbers.{refusal, toldToken}
@@ -24,7 +23,7 @@ use Rattle.paper.specs.declared.Taken.the-variants.{Took, Refused}
 use Rattle.paper.specs.declared.Operands.the-variants.{Fit, Refused as Unfit}
 use Rattle.paper.specs.Places.{Place, raw, relative}
 use Rattle.places.specs.Places.{placeBy, placesIn, decoded}
-use Rattle.tokens.proofs.TokenAt.{raw-good, not-free-not-relative}
+use Rattle.tokens.proofs.TokenAt.{raw-good}
 use Rattle.told.specs.Numbered.{faultNumber, tookNumber, takenNumber}
 use Rattle.operands.proofs.Numbers.{on-token-number, taken-pick}
 use Rattle.places.proofs.Decoding.{decoded-zero, decoded-step}
@@ -70,20 +69,13 @@ module _ (v : Version) (place : Place) (offset at told : ℕ) (behind : List ℕ
         rw (operand-at v place offset at behind h, ← (taken-pick (bringsRelative place token) brought (Took 1)))
         (on-token-number (tokenAt v place token) told offset (pick (bringsRelative place token) brought (Took 1)) e)
 
-    pub free-number : bringsRelative place token ≡ eqb (bit 13 token) 1 → takenNumber (operand v place offset (drop at behind)) ≡
+    pub free-number : isFree place ≡ true → takenNumber (operand v place offset (drop at behind)) ≡
         pick (eqb told 0) (pick (eqb (bit 13 token) 1) (takenNumber brought) (tookNumber 1)) (faultNumber told offset)
-    free-number b = operand-number ∙ rw b refl
-
-    typed-by : (z : Bool) → eqb told 0 ≡ z → isFree place ≡ false →
-        pick z (pick (bringsRelative place token) (takenNumber brought) (tookNumber 1)) (faultNumber told offset) ≡
-        pick z (tookNumber 1) (faultNumber told offset)
-    typed-by true z not-free =
-        rw (not-free-not-relative v place token not-free (sym e ∙ eqb-true told 0 z)) refl
-    typed-by false z not-free = refl
+    free-number is-free = rw is-free at operand-number
 
     pub typed-number : isFree place ≡ false →
         takenNumber (operand v place offset (drop at behind)) ≡ pick (eqb told 0) (tookNumber 1) (faultNumber told offset)
-    typed-number not-free = operand-number ∙ typed-by (eqb told 0) refl not-free
+    typed-number not-free = rw not-free at operand-number
 
   pub raw-number : place ≡ raw → takenNumber (operand v place offset (drop at behind)) ≡ tookNumber 1
   raw-number r =

@@ -6,14 +6,17 @@ use mathlib.Core.List.{List}
 use native.Mathlib.Nat.{mod-lt}
 use native.Mathlib.Omega.{arith}
 use lib.Dec.{eqb, lit<}
+use lib.ListN.{length}
 use borrow.Author.Tests.{eqb-true, eqb-false, ne-eqb}
 use Rattle.paper.specs.Notation.{pick}
-use Rattle.paper.specs.InstructionToken.{opcodeOf, bitsLaid, commentOpcode, commentLaid, commentLength, endOpcode, endToken, isPredicated, withPredicate}
+use Rattle.paper.specs.Versions.{hasSizes}
+use Rattle.paper.specs.InstructionToken.{opcodeOf, statedSize, bitsLaid, commentOpcode, commentLaid, commentLength, endOpcode, endToken, isPredicated, withPredicate}
 use Rattle.paper.specs.Instruction.{claimed, Head, broken, end, comment, operation, headOf, tokenHead, claim}
 use Rattle.paper.specs.Places.{Entry, absent, listed, entryOf, Place}
 use Rattle.paper.specs.declared.Version.{Version}
 use Rattle.paper.specs.declared.Reason.{Reason}
 use Rattle.paper.specs.declared.Reason.the-variants.{Opcode as OPCODE, Bits as BITS}
+use Rattle.paper.proofs.FirstRows.{first-few}
 
 -- neither a comment's opcode nor END's
 pub record Other (token : ℕ) : Type 0 where
@@ -77,4 +80,8 @@ module _ (v : Version) (token : ℕ) where
   fifteen h (is-broken b) none = omega arith
   fifteen h (is-comment o l) none = absurd (none (commentLength token) refl)
   fifteen h (is-end e) none = omega arith
-  fifteen h (is-listed o e l) none = mod-lt (token / 16777216) (lit< tt)
+  fifteen h (is-listed {places} o e l) none = by (hasSizes v) refl
+    where
+      by : (sized : Bool) → hasSizes v ≡ sized → pick sized (statedSize token) (length places) < 16
+      by true s = mod-lt (token / 16777216) (lit< tt)
+      by false s = omega (arith, first-few v (opcodeOf token) places s e)

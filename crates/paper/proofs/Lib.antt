@@ -1,9 +1,13 @@
 pub mod Bools
 pub mod Below
+pub mod Arms
 pub mod LowBits
 pub mod VersionTokens
 pub mod OneToOne
+pub mod FirstRows
+pub mod DclRow
 pub mod FirstToken
+pub mod Sizeless
 pub mod OneInstruction
 pub mod OwnTokens
 pub mod StreamVerdict

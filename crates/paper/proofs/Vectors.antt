@@ -1,4 +1,4 @@
--- One instruction of each kind from document 01, the readings of it, and an independent assembler's streams, good and refused: the definitions, computed.
+-- One instruction of each kind from documents 01 and 02, the readings of them, and an independent assembler's streams, good and refused: the definitions, computed.
 use mathlib.Core.Path.{_≡_, refl}
 use mathlib.Core.Bool.{Bool, true, _&&_}
 use mathlib.Core.List.{List, [], _∷_}
@@ -6,6 +6,7 @@ use Prim.Native.Nat.{ℕ, suc}
 use lib.Dec.{eqb}
 use Rattle.paper.specs.Numbers.{refusal, ToldInstruction, toldInstruction}
 use Rattle.paper.specs.OpcodeTable.{rows}
+use Rattle.paper.specs.FirstVersions.{firstRows}
 use Rattle.paper.specs.Places.{entryOf, typedPlaces}
 use Rattle.paper.specs.OperandTokens.{tokenAt}
 use Rattle.paper.specs.Dcl.{declaration}
@@ -13,7 +14,7 @@ use Rattle.paper.specs.Instruction.{tokenHead, operand, operands, judged
 use Rattle.paper.specs.Blocks.{Cut, out, then, classes, classOf}
 use Rattle.paper.specs.Walk.{begin, walk}
 use Rattle.paper.specs.declared.Version.{Version}
-use Rattle.paper.specs.declared.Version.the-variants.{V2, V3, P2, P3}
+use Rattle.paper.specs.declared.Version.the-variants.{V2, V3, P2, P3, V1, P11, P12, P13, P14}
 use Rattle.paper.specs.declared.Single.the-variants.{Plain, Phase}
 use Rattle.paper.specs.declared.Opener.the-variants.{If}
 use Rattle.paper.specs.declared.Closer.the-variants.{EndIf, End}
@@ -230,6 +231,82 @@ vectors =
     vector P3 (0x03000001 ∷ 0x800F0000 ∷ 0xA0E42000 ∷ 0xB0000000 ∷ []) 8 3 0 ∷
     -- a relative source in P2
     vector P2 (0x03000001 ∷ 0x800F0000 ∷ 0xA0E42000 ∷ 0xF0E40800 ∷ []) 7 2 0 ∷
+    -- document 02, Q-4. mov r0, c0 without a size; with one, with bit 28, 29, 31, with controls
+    vector V1 (0x00000001 ∷ 0x800F0000 ∷ 0xA0E40000 ∷ 0x0000FFFF ∷ []) 0 0 3 ∷
+    vector V1 (0x02000001 ∷ 0x800F0000 ∷ 0xA0E40000 ∷ 0x0000FFFF ∷ []) 4 0 0 ∷
+    vector V1 (0x10000001 ∷ 0x800F0000 ∷ 0xA0E40000 ∷ 0x0000FFFF ∷ []) 4 0 0 ∷
+    vector P11 (0x20000001 ∷ 0x800F0000 ∷ 0xA0E40000 ∷ 0x0000FFFF ∷ []) 4 0 0 ∷
+    vector P11 (0x80000001 ∷ 0x800F0000 ∷ 0xA0E40000 ∷ 0x0000FFFF ∷ []) 4 0 0 ∷
+    vector P11 (0x00010042 ∷ 0xB00F0000 ∷ 0x0000FFFF ∷ []) 4 0 0 ∷
+    vector P11 (0x01000042 ∷ 0xB00F0000 ∷ 0x0000FFFF ∷ []) 4 0 0 ∷
+    -- co-issue in vs_1_1, in ps_1_1, on END, and from 2_0 on
+    vector V1 (0x40000000 ∷ 0x0000FFFF ∷ []) 4 0 0 ∷
+    vector P11 (0x40000001 ∷ 0x800F0000 ∷ 0xA0E40000 ∷ 0x0000FFFF ∷ []) 0 0 3 ∷
+    vector P14 (0x4000FFFD ∷ 0x0000FFFF ∷ []) 0 0 1 ∷
+    vector P11 (0x4000FFFF ∷ []) 4 0 0 ∷
+    vector P2 (0x42000001 ∷ 0x800F0000 ∷ 0xA0E40000 ∷ 0x0000FFFF ∷ []) 4 0 0 ∷
+    -- bit 30 of a comment is length
+    vector P11 (0x4001FFFE ∷ 0x00000000 ∷ 0x0000FFFF ∷ []) 5 0 0 ∷
+    -- the operands pass the end; END is taken for an operand
+    vector V1 (0x00000001 ∷ 0x800F0000 ∷ []) 5 0 0 ∷
+    vector V1 (0x00000001 ∷ 0x800F0000 ∷ 0x0000FFFF ∷ []) 7 2 0 ∷
+    -- add oPos, c0[a0.x], v0: no token follows bit 13; at any source, at no destination
+    vector V1 (0x00000002 ∷ 0xC00F0000 ∷ 0xA0E42000 ∷ 0x90E40000 ∷ 0x0000FFFF ∷ []) 0 0 4 ∷
+    vector V1 (0x00000002 ∷ 0xC00F0000 ∷ 0xA0E40000 ∷ 0x90E42000 ∷ 0x0000FFFF ∷ []) 0 0 4 ∷
+    vector V1 (0x00000001 ∷ 0x800F2000 ∷ 0xA0E40000 ∷ 0x0000FFFF ∷ []) 7 1 0 ∷
+    vector P14 (0x00000001 ∷ 0x800F0000 ∷ 0xA0E42000 ∷ 0x0000FFFF ∷ []) 7 2 0 ∷
+    -- the shift scale, on DEF and TEX too; in vs_1_1 and in 2_0
+    vector P11 (0x00000001 ∷ 0x810F0000 ∷ 0xA0E40000 ∷ 0x0000FFFF ∷ []) 0 0 3 ∷
+    vector P11 (0x00000001 ∷ 0x870F0000 ∷ 0xA0E40000 ∷ 0x0000FFFF ∷ []) 0 0 3 ∷
+    vector P14 (0x00000051 ∷ 0xAF0F0000 ∷ 0x00000000 ∷ 0x00000000 ∷ 0x00000000 ∷ 0x00000000 ∷ []) 0 0 6 ∷
+    vector P13 (0x00000042 ∷ 0xB10F0000 ∷ 0x0000FFFF ∷ []) 0 0 2 ∷
+    vector V1 (0x00000001 ∷ 0x810F0000 ∷ 0xA0E40000 ∷ 0x0000FFFF ∷ []) 7 1 0 ∷
+    vector P2 (0x02000001 ∷ 0x810F0000 ∷ 0xA0E40000 ∷ 0x0000FFFF ∷ []) 7 1 0 ∷
+    -- modifier 7, and A; B, with bits 21 and 22 of the destination; D
+    vector P13 (0x00000001 ∷ 0x800F0000 ∷ 0xA7E40000 ∷ 0x0000FFFF ∷ []) 7 2 0 ∷
+    vector P14 (0x00000001 ∷ 0x800F0000 ∷ 0xA7E40000 ∷ 0x0000FFFF ∷ []) 0 0 3 ∷
+    vector P14 (0x00000001 ∷ 0x800F0000 ∷ 0xAAE40000 ∷ 0x0000FFFF ∷ []) 0 0 3 ∷
+    vector P2 (0x02000001 ∷ 0x800F0000 ∷ 0xAAE40000 ∷ 0x0000FFFF ∷ []) 7 2 0 ∷
+    vector P11 (0x00000001 ∷ 0x806F0000 ∷ 0x8BE40000 ∷ 0x0000FFFF ∷ []) 0 0 3 ∷
+    vector P14 (0x00000001 ∷ 0x800F0000 ∷ 0xADE40000 ∷ 0x0000FFFF ∷ []) 7 2 0 ∷
+    -- tex t0; texld r0, t0, and a sampler behind it is no operand; texcoord t0; texcrd r0, t0
+    vector P11 (0x00000042 ∷ 0xB00F0000 ∷ 0x0000FFFF ∷ []) 0 0 2 ∷
+    vector P14 (0x00000042 ∷ 0x800F0000 ∷ 0xB0E40000 ∷ 0xA0E40800 ∷ 0x0000FFFF ∷ []) 0 0 3 ∷
+    vector P14 (0x00000042 ∷ 0x800F0000 ∷ 0x0000FFFF ∷ []) 7 2 0 ∷
+    vector P13 (0x00000040 ∷ 0xB00F0000 ∷ 0x0000FFFF ∷ []) 0 0 2 ∷
+    vector P14 (0x00000040 ∷ 0x800F0000 ∷ 0xB0E40000 ∷ 0x0000FFFF ∷ []) 0 0 3 ∷
+    vector P14 (0x00000040 ∷ 0x800F0000 ∷ 0x80E40000 ∷ 0x0000FFFF ∷ []) 8 2 0 ∷
+    -- PHASE in ps_1_4 and in ps_1_3
+    vector P14 (0x0000FFFD ∷ 0x0000FFFF ∷ []) 0 0 1 ∷
+    vector P13 (0x0000FFFD ∷ 0x0000FFFF ∷ []) 3 0 0 ∷
+    -- dcl_position v0; an output; none in ps_1_x
+    vector V1 (0x0000001F ∷ 0x80000000 ∷ 0x900F0000 ∷ 0x0000FFFF ∷ []) 0 0 3 ∷
+    vector V1 (0x0000001F ∷ 0x80000000 ∷ 0xE00F0000 ∷ 0x0000FFFF ∷ []) 8 2 0 ∷
+    vector P14 (0x0000001F ∷ 0x80000000 ∷ 0x900F0000 ∷ 0x0000FFFF ∷ []) 3 0 0 ∷
+    -- mov a0.x, c0; by ADD
+    vector V1 (0x00000001 ∷ 0xB0010000 ∷ 0xA0E40000 ∷ 0x0000FFFF ∷ []) 0 0 3 ∷
+    vector V1 (0x00000002 ∷ 0xB0010000 ∷ 0xA0E40000 ∷ 0xA0E40000 ∷ 0x0000FFFF ∷ []) 8 1 0 ∷
+    -- c2048 as a source in vs_1_1, in ps_1_1, and as DEF's destination
+    vector V1 (0x00000001 ∷ 0x800F0000 ∷ 0xB0E40800 ∷ 0x0000FFFF ∷ []) 0 0 3 ∷
+    vector P11 (0x00000001 ∷ 0x800F0000 ∷ 0xB0E40800 ∷ 0x0000FFFF ∷ []) 8 2 0 ∷
+    vector V1 (0x00000051 ∷ 0xB00F0800 ∷ 0x00000000 ∷ 0x00000000 ∷ 0x00000000 ∷ 0x00000000 ∷ 0x0000FFFF ∷ []) 0 0 6 ∷
+    -- texkill r0
+    vector P11 (0x00000041 ∷ 0x800F0000 ∷ 0x0000FFFF ∷ []) 0 0 2 ∷
+    -- cnd r0, c0, c0, c0 before ps_1_4, and in it
+    vector P11 (0x00000050 ∷ 0x800F0000 ∷ 0xA0E40000 ∷ 0xA0E40000 ∷ 0xA0E40000 ∷ 0x0000FFFF ∷ []) 8 2 0 ∷
+    vector P14 (0x00000050 ∷ 0x800F0000 ∷ 0xA0E40000 ∷ 0xA0E40000 ∷ 0xA0E40000 ∷ 0x0000FFFF ∷ []) 0 0 5 ∷
+    -- t0 as a source of ps_1_4
+    vector P14 (0x00000001 ∷ 0x800F0000 ∷ 0xB0E40000 ∷ 0x0000FFFF ∷ []) 8 2 0 ∷
+    -- bem r0.xy, c0, r1; the other way round
+    vector P14 (0x00000059 ∷ 0x80030000 ∷ 0xA0E40000 ∷ 0x80E40001 ∷ 0x0000FFFF ∷ []) 0 0 4 ∷
+    vector P14 (0x00000059 ∷ 0x80030000 ∷ 0x80E40001 ∷ 0xA0E40000 ∷ 0x0000FFFF ∷ []) 8 3 0 ∷
+    -- sub in vs_1_1; frc and dp4 in ps_1_1; dp4 in ps_1_2
+    vector V1 (0x00000003 ∷ 0x800F0000 ∷ 0xA0E40000 ∷ 0xA0E40001 ∷ 0x0000FFFF ∷ []) 0 0 4 ∷
+    vector P11 (0x00000013 ∷ 0x800F0000 ∷ 0x80E40000 ∷ 0x0000FFFF ∷ []) 3 0 0 ∷
+    vector P11 (0x00000009 ∷ 0x800F0000 ∷ 0xA0E40000 ∷ 0xA0E40000 ∷ 0x0000FFFF ∷ []) 3 0 0 ∷
+    vector P12 (0x00000009 ∷ 0x800F0000 ∷ 0xA0E40000 ∷ 0xA0E40000 ∷ 0x0000FFFF ∷ []) 0 0 4 ∷
+    -- m4x4 r0, v0, r0
+    vector V1 (0x00000014 ∷ 0x800F0000 ∷ 0x90E40000 ∷ 0x80E40000 ∷ 0x0000FFFF ∷ []) 0 0 4 ∷
     []
 
 abbrev tells : ToldInstruction → Vector → Bool
@@ -240,7 +317,7 @@ allTell [] = true
 allTell (row ∷ more) = tells (toldInstruction (judged (row .version) (row .tokens))) row && allTell more
 
 vectors-hold : allTell vectors ≡ true
-unfolding vectors judged tokenHead operand operands declaration tokenAt typedPlaces entryOf rows classOf classes toldInstruction
+unfolding vectors judged tokenHead operand operands declaration tokenAt typedPlaces entryOf rows firstRows classOf classes toldInstruction
 vectors-hold = refl
 
 -- a cut of instructions of one token each, from a position on

@@ -7,7 +7,7 @@ use lib.Dec.{eqb}
 use Rattle.paper.specs.Notation.{pick}
 use Rattle.paper.specs.Versions.{versions, versionToken, namedAmong, named}
 use Rattle.paper.specs.declared.Version.{Version}
-use Rattle.paper.specs.declared.Version.the-variants.{V2, V3, P2, P3}
+use Rattle.paper.specs.declared.Version.the-variants.{V2, V3, P2, P3, V1, P11, P12, P13, P14}
 use Rattle.paper.specs.declared.Named.the-variants.{Known}
 use Rattle.paper.proofs.Bools.{both-left, both-right, apart}
 
@@ -16,6 +16,11 @@ named-back V2 = refl
 named-back V3 = refl
 named-back P2 = refl
 named-back P3 = refl
+named-back V1 = refl
+named-back P11 = refl
+named-back P12 = refl
+named-back P13 = refl
+named-back P14 = refl
 
 -- a rule of versions, tested on each of a list
 abbrev pub inEach : (Version → Bool) → List Version → Bool

@@ -6,6 +6,7 @@ use mathlib.Core.List.{List, [], _∷_}
 use lib.Dec.{eqb, leb}
 use lib.ListN.{length, take, drop}
 use Rattle.paper.specs.Notation.{pick}
+use Rattle.paper.specs.Versions.{hasSizes}
 use Rattle.paper.specs.Numbers.{refusal}
 use Rattle.paper.specs.OpcodeTable.{DCL}
 use Rattle.paper.specs.Places.{Place, relative, Entry, absent, listed, entryOf}
@@ -29,9 +30,10 @@ use Rattle.paper.specs.declared.Closer.the-variants.{End}
 use Rattle.paper.specs.declared.Judged.{Judged}
 use Rattle.paper.specs.declared.Judged.the-variants.{Good, Refused}
 
--- how many tokens an instruction of the table claims behind its first one: its stated size
+-- how many tokens an instruction of the table claims behind its first one: its stated size; where there is none "the opcode alone gives the
+-- cutting" (document 02, Q-4), a token to an operand
 abbrev pub claimed : Version → ℕ → List Place → ℕ
-claimed v token places = statedSize token
+claimed v token places = pick (hasSizes v) (statedSize token) (length places)
 
 -- what an instruction's first token says by itself: a refusal; END; a comment and its length; another instruction, the places of its operands
 -- and what it claims

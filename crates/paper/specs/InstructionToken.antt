@@ -1,10 +1,10 @@
--- Document 01, "Instruction token", with document 02's Q-2: its bits, the comment and END.
+-- Document 01, "Instruction token", with document 02's Q-2 and Q-4: its bits, the comment and END.
 use Prim.Native.Nat.{ℕ}
 use mathlib.Core.Bool.{Bool, false, not, _&&_, _||_}
 use mathlib.Core.List.{List, [], _∷_}
 use lib.Dec.{eqb, leb}
 use Rattle.paper.specs.Notation.{bits, bit, pick, among}
-use Rattle.paper.specs.Versions.{hasPredicates}
+use Rattle.paper.specs.Versions.{hasSizes, hasCoissue, hasPredicates}
 use Rattle.paper.specs.OpcodeTable.{IFC, BREAKC, SETP, TEX, DCL, DEF, DEFI, DEFB}
 use Rattle.paper.specs.Places.{Place, predicate, isDestination}
 use Rattle.paper.specs.declared.Version.{Version}
@@ -47,11 +47,23 @@ controlsLaid opcode controls =
     (pick (eqb opcode TEX) (leb controls 2) (eqb controls 0))
 
 -- "Bits 29 to 31 are zero."
-abbrev pub bitsLaid : Version → ℕ → List Place → Bool
-bitsLaid v token places =
+abbrev pub sizedBitsLaid : Version → ℕ → List Place → Bool
+sizedBitsLaid v token places =
     eqb (bits 31 29 token) 0
     && (controlsLaid (opcodeOf token) (controlsOf token)
     && (eqb (bit 28 token) 0 || mayBePredicated v (opcodeOf token) places))
+
+-- Document 02, Q-4: "They have no size and no predicate (bits 24 to 28 and TEX's controls zero) ..; pixel versions have co-issue bit 30".
+-- The other bits, 23:16, 29 and 31, are zero as ever.
+abbrev pub isCoissued : ℕ → ℕ
+isCoissued token = bit 30 token
+
+abbrev pub unsizedBitsLaid : Version → ℕ → Bool
+unsizedBitsLaid v token =
+    eqb (bits 29 16 token) 0 && (eqb (bit 31 token) 0 && (eqb (isCoissued token) 0 || hasCoissue v))
+
+abbrev pub bitsLaid : Version → ℕ → List Place → Bool
+bitsLaid v token places = pick (hasSizes v) (sizedBitsLaid v token places) (unsizedBitsLaid v token)
 
 -- "Comment: bits 15:0 are FFFE, 30:16 the number of tokens of any content that follow, bit 31 zero."
 abbrev pub commentOpcode : ℕ

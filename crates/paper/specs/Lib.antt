@@ -1,8 +1,10 @@
--- Document 01 as definitions: a file for each of its sections, in its order, and one of notation.
+-- Document 01, with the requests of document 02 that have landed, as definitions: a file for each section, in their order, one for the table
+-- of Q-4, and one of notation.
 pub mod Notation
 pub mod Versions
 pub mod Numbers
 pub mod OpcodeTable
+pub mod FirstVersions
 pub mod Places
 pub mod InstructionToken
 pub mod OperandTokens

@@ -1,12 +1,12 @@
--- Document 01, "Operand tokens".
+-- Document 01, "Operand tokens", with document 02's Q-4.
 use Prim.Native.Nat.{ℕ, _+_, _*_}
-use mathlib.Core.Bool.{Bool, true, false, not, _&&_, _||_}
+use mathlib.Core.Bool.{Bool, true, false, _&&_, _||_}
 use mathlib.Core.List.{List, [], _∷_}
 use lib.Dec.{eqb}
 use Rattle.paper.specs.Notation.{bits, bit, pick, among}
 use Rattle.paper.specs.Versions.{has, isPixel, hasPredicates}
 use Rattle.paper.specs.Numbers.{refusal}
-use Rattle.paper.specs.Places.{Types, free, only, Place, raw, usage, declared, destination, source, condition, predicate, relative, isRaw, isDestination}
+use Rattle.paper.specs.Places.{Types, free, only, Place, raw, usage, declared, destination, source, condition, predicate, relative, isDestination, isSource}
 use Rattle.paper.specs.declared.Version.{Version}
 use Rattle.paper.specs.declared.Reason.{Reason}
 use Rattle.paper.specs.declared.Reason.the-variants.{Size as SIZE, Operand as OPERAND, Register as REGISTER}
@@ -49,45 +49,62 @@ isFree condition = false
 isFree predicate = false
 isFree relative = false
 
+-- Document 02, Q-4: "A source's relative bit in vs_1_1 brings no extra token." Its sources have types of their own, and none is called free.
+abbrev pub markedSources : Version → Bool
+markedSources v = has v .sourcesMarked
+
 abbrev pub mayBeRelative : Version → Place → Bool
-mayBeRelative v place = isFree place && pick (isDestination place) (relativeDestinations v) (relativeSources v)
+mayBeRelative v place =
+    pick (isFree place) (pick (isDestination place) (relativeDestinations v) (relativeSources v)) (isSource place && markedSources v)
 
 abbrev pub relativeLaid : Version → Place → ℕ → Bool
 relativeLaid v place token = eqb (bit 13 token) 0 || mayBeRelative v place
 
--- "Destination: mask 19:16 free; bit 20 saturate free in all versions ..; bits 21 and 22 pixel only; 23 and 27:24 zero."
+-- "Destination: mask 19:16 free; bit 20 saturate free in all versions ..; bits 21 and 22 pixel only; 23 and 27:24 zero." Document 02, Q-4:
+-- "Destination bits 27:24, the shift scale, are free in these pixel versions, 1_1 to 1_4 only."
+abbrev pub hasShiftScale : Version → Bool
+hasShiftScale v = has v .shiftScales
+
 abbrev pub destinationLaid : Version → Place → ℕ → Bool
 destinationLaid v place token =
     bothLaid token
     && ((eqb (bits 22 21 token) 0 || isPixel v)
     && (eqb (bit 23 token) 0
-    && (eqb (bits 27 24 token) 0 && relativeLaid v place token)))
+    && ((eqb (bits 27 24 token) 0 || hasShiftScale v) && relativeLaid v place token)))
 
 -- "modifier 27:24 is 0 to 6, B, C, or D only with type 19"
 abbrev pub plainModifiers : List ℕ
 plainModifiers = 0 ∷ 1 ∷ 2 ∷ 3 ∷ 4 ∷ 5 ∷ 6 ∷ 0xB ∷ 0xC ∷ []
 
+-- Document 02, Q-4: "ps_1_4 adds modifiers 7 to A."
+abbrev pub furtherModifiers : List ℕ
+furtherModifiers = 7 ∷ 8 ∷ 9 ∷ 0xA ∷ []
+
+abbrev pub hasFurther : Version → Bool
+hasFurther v = has v .furtherModifiers
+
 abbrev pub negated : ℕ → ℕ → Bool
 negated modifier type = eqb modifier 0xD && eqb type 19
 
-abbrev pub sourceModifier : ℕ → ℕ → Bool
-sourceModifier modifier type = among modifier plainModifiers || negated modifier type
+abbrev pub sourceModifier : Version → ℕ → ℕ → Bool
+sourceModifier v modifier type =
+    among modifier plainModifiers || ((hasFurther v && among modifier furtherModifiers) || negated modifier type)
 
 -- the relative token's modifier is zero, as a destination's; the predicate's "modifier 0 or D"
-abbrev pub modifierLaid : Place → ℕ → ℕ → Bool
-modifierLaid raw modifier type = true
-modifierLaid usage modifier type = true
-modifierLaid declared modifier type = eqb modifier 0
-modifierLaid (destination types) modifier type = eqb modifier 0
-modifierLaid (source types) modifier type = sourceModifier modifier type
-modifierLaid condition modifier type = sourceModifier modifier type
-modifierLaid predicate modifier type = eqb modifier 0 || negated modifier type
-modifierLaid relative modifier type = eqb modifier 0
+abbrev pub modifierLaid : Version → Place → ℕ → ℕ → Bool
+modifierLaid v raw modifier type = true
+modifierLaid v usage modifier type = true
+modifierLaid v declared modifier type = eqb modifier 0
+modifierLaid v (destination types) modifier type = eqb modifier 0
+modifierLaid v (source types) modifier type = sourceModifier v modifier type
+modifierLaid v condition modifier type = sourceModifier v modifier type
+modifierLaid v predicate modifier type = eqb modifier 0 || negated modifier type
+modifierLaid v relative modifier type = eqb modifier 0
 
 -- "Source: swizzle 23:16 free"
 abbrev pub sourceLaid : Version → Place → ℕ → Bool
 sourceLaid v place token =
-    bothLaid token && (modifierLaid place (modifierOf token) (typeOf token) && relativeLaid v place token)
+    bothLaid token && (modifierLaid v place (modifierOf token) (typeOf token) && relativeLaid v place token)
 
 -- "R any 32 bits"; U is judged beside its destination, in the section "DCL"
 abbrev pub laid : Version → Place → ℕ → Bool
@@ -143,9 +160,9 @@ layoutThenType false typed = Bad OPERAND
 unfoldable pub tokenAt : Version → Place → ℕ → Token
 tokenAt v place token = layoutThenType (laid v place token) (typed v place (typeOf token))
 
--- "One relative token then follows": behind a token that is good, so bit 13 is one at a free place alone
+-- "One relative token then follows": at a free place alone; elsewhere bit 13 is zero, or "brings no extra token"
 abbrev pub bringsRelative : Place → ℕ → Bool
-bringsRelative place token = not (isRaw place) && eqb (bit 13 token) 1
+bringsRelative place token = isFree place && eqb (bit 13 token) 1
 
 abbrev pub refusedOperands : Reason → ℕ → Operands
 refusedOperands reason position = Refused (refusal reason position)

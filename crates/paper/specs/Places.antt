@@ -1,11 +1,14 @@
--- Document 01, "Operand tokens": the places of an instruction's operands, and "Types.", the register types allowed at each.
+-- Document 01, "Operand tokens": the places of an instruction's operands, and "Types.", the register types allowed at each; with document 02's
+-- Q-4, whose table names them all.
 use Prim.Native.Nat.{ℕ, suc}
 use mathlib.Core.Bool.{Bool, true, false, _&&_}
 use mathlib.Core.List.{List, [], _∷_}
 use lib.Dec.{eqb}
 use Rattle.paper.specs.Notation.{pick, among}
-use Rattle.paper.specs.Versions.{isOne}
+use Rattle.paper.specs.Versions.{isOne, hasSizes}
 use Rattle.paper.specs.OpcodeTable.{Letter, D, S, R, U, Row, rows, DEF, DEFI, DEFB, SETP, MOVA, TEXKILL, CALL, LABEL, CALLNZ, IF, DCL, LOOP, REP, BREAKP, TEX, TEXLDL, TEXLDD}
+use Rattle.paper.specs.FirstVersions.{Spot, Cell, no, takes, FirstRow, cell, firstRows}
+use Rattle.paper.specs.FirstVersions.{D as TD, S as TS, R as TR, U as TU, UD as TUD}
 use Rattle.paper.specs.declared.Version.{Version}
 
 -- the types allowed at a place: those of a place that is free, or these alone
@@ -88,11 +91,31 @@ entryIn [] v opcode = absent
 entryIn (r ∷ rs) v opcode =
     pick (isOne v (r .allowed) && among opcode (r .opcodes)) (listed (placesFrom opcode 0 (r .operands))) (entryIn rs v opcode)
 
-unfoldable pub entryOf : Version → ℕ → Entry
-unfolding rows
-entryOf v opcode = entryIn rows v opcode
+-- the places of the versions that have no size: each has its types in the table
+abbrev spotPlace : Spot → Place
+spotPlace (TD types) = destination (only types)
+spotPlace (TS types) = source (only types)
+spotPlace TR = raw
+spotPlace TU = usage
+spotPlace TUD = declared
 
--- kinds of places: a destination, the predicate's, one whose token is kept as it stands
+abbrev pub spotPlaces : List Spot → List Place
+spotPlaces [] = []
+spotPlaces (spot ∷ spots) = spotPlace spot ∷ spotPlaces spots
+
+abbrev pub cellEntry : Cell → Entry
+cellEntry no = absent
+cellEntry (takes spots) = listed (spotPlaces spots)
+
+abbrev pub firstEntryIn : List FirstRow → Version → ℕ → Entry
+firstEntryIn [] v opcode = absent
+firstEntryIn (row ∷ rows) v opcode = pick (eqb opcode (row .opcode)) (cellEntry (cell v row)) (firstEntryIn rows v opcode)
+
+unfoldable pub entryOf : Version → ℕ → Entry
+unfolding rows firstRows
+entryOf v opcode = pick (hasSizes v) (entryIn rows v opcode) (firstEntryIn firstRows v opcode)
+
+-- kinds of places: a destination, a source, the predicate's, one whose token is kept as it stands
 abbrev pub isDestination : Place → Bool
 isDestination raw = false
 isDestination usage = false
@@ -102,6 +125,16 @@ isDestination (source types) = false
 isDestination condition = false
 isDestination predicate = false
 isDestination relative = false
+
+abbrev pub isSource : Place → Bool
+isSource raw = false
+isSource usage = false
+isSource declared = false
+isSource (destination types) = false
+isSource (source types) = true
+isSource condition = true
+isSource predicate = false
+isSource relative = false
 
 abbrev pub isPredicate : Place → Bool
 isPredicate raw = false

@@ -10,16 +10,23 @@ pub const MOST_TOKENS: usize = 16384;
 // Opcodes that are judged apart.
 pub const DCL: u32 = 31;
 
+pub const PHASE: u32 = 0xFFFD;
+
 pub const COMMENT: u32 = 0xFFFE;
 
 pub const END: u32 = 0xFFFF;
 
-// "The base knows four versions."
+// "The base knows four versions"; document 02, Q-4, adds vs_1_1 and ps_1_1 to ps_1_4.
 pub enum Version {
     V2,
     V3,
     P2,
     P3,
+    P11,
+    P12,
+    P13,
+    P14,
+    V1,
 }
 
 // What a first token, or a version that is passed, stands for.

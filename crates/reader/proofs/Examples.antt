@@ -3,6 +3,7 @@ use mathlib.Core.Path.{_≡_, refl}
 use mathlib.Core.List.{List, [], _∷_}
 use Prim.Native.Nat.{ℕ}
 use Rattle.paper.specs.OpcodeTable.{rows}
+use Rattle.paper.specs.FirstVersions.{firstRows}
 use Rattle.paper.specs.OperandTokens.{tokenAt}
 use Rattle.paper.specs.Dcl.{declaration}
 use Rattle.paper.specs.Blocks.{classOf}
@@ -23,8 +24,8 @@ no : ℕ → ℕ → ToldReading
 no number position = record { number = number; position = position; next = 0; instruction = noRecord }
 
 -- a register, and the register that it is relative to
-abbrev register : ℕ → ℕ → ℕ → ℕ → ℕ → ℕ → ℕ → ℕ → Operand
-register kind number mask swizzle relative by-kind by-number by-swizzle =
+abbrev register : ℕ → ℕ → ℕ → ℕ → ℕ → ℕ → ℕ → ℕ → ℕ → Operand
+register kind number mask swizzle shift relative by-kind by-number by-swizzle =
     record {
       number = number;
       kind = kind;
@@ -32,6 +33,7 @@ register kind number mask swizzle relative by-kind by-number by-swizzle =
       swizzle = swizzle;
       modifier = 0;
       result = 0;
+      shift = shift;
       relative = relative;
       «relative_number» = by-number;
       «relative_kind» = by-kind;
@@ -39,19 +41,26 @@ register kind number mask swizzle relative by-kind by-number by-swizzle =
       raw = 0;
     }
 
--- with a mask, with a swizzle, and with a swizzle and a relative register
+-- with a mask, with a mask and a shift scale, with a swizzle, and with a swizzle and a relative register
 destination : ℕ → ℕ → ℕ → Operand
-destination kind number mask = register kind number mask 0 0 0 0 0
+destination kind number mask = register kind number mask 0 0 0 0 0 0
+
+scaled : ℕ → ℕ → ℕ → ℕ → Operand
+scaled kind number mask shift = register kind number mask 0 shift 0 0 0 0
 
 source : ℕ → ℕ → ℕ → Operand
-source kind number swizzle = register kind number 0 swizzle 0 0 0 0
+source kind number swizzle = register kind number 0 swizzle 0 0 0 0 0
 
 indexed : ℕ → ℕ → ℕ → ℕ → ℕ → ℕ → Operand
-indexed kind number swizzle by-kind by-number by-swizzle = register kind number 0 swizzle 1 by-kind by-number by-swizzle
+indexed kind number swizzle by-kind by-number by-swizzle = register kind number 0 swizzle 0 1 by-kind by-number by-swizzle
 
 instruction : ℕ → ℕ → List Operand → Record
 instruction opcode predicated operands =
-    record { opcode = opcode; controls = 0; predicated = predicated; extent = 0; operands = operands }
+    record { opcode = opcode; controls = 0; predicated = predicated; coissue = 0; extent = 0; operands = operands }
+
+coissued : ℕ → List Operand → Record
+coissued opcode operands =
+    record { opcode = opcode; controls = 0; predicated = 0; coissue = 1; extent = 0; operands = operands }
 
 -- mov r0, c0
 mov : List ℕ
@@ -73,6 +82,18 @@ dcl-read : tells 0xFFFE0200 (0x0200001F ∷ 0x80000000 ∷ 0x900F0000 ∷ []) 0 
     yes 3 (instruction 31 0 (rawOperand 0x80000000 ∷ destination 1 0 0xF ∷ noOperand ∷ noOperand ∷ noOperand ∷ noOperand ∷ []))
 unfolding tells yes destination instruction rows entryOf typedPlaces tokenAt declaration classOf tokenHead operand operands judged operandOf operandAt widthAt inOrder predicateOr arrayOf recordOf readingAt reading toldReading
 dcl-read = refl
+
+-- add oPos, c0[a0.x], v0 in vs_1_1: the mark is kept, and no token follows
+marked-read : tells 0xFFFE0101 (0x00000002 ∷ 0xC00F0000 ∷ 0xA0E42000 ∷ 0x90E40000 ∷ 0x0000FFFF ∷ []) 0 ≡
+    yes 4 (instruction 2 0 (destination 4 0 0xF ∷ indexed 2 0 0xE4 0 0 0 ∷ source 1 0 0xE4 ∷ noOperand ∷ noOperand ∷ noOperand ∷ []))
+unfolding tells yes destination source indexed instruction firstRows entryOf tokenAt declaration classOf tokenHead operand operands judged operandOf operandAt widthAt inOrder predicateOr arrayOf recordOf readingAt reading toldReading
+marked-read = refl
+
+-- + mov_x2 r0, c0 in ps_1_1: co-issue and the shift scale are kept
+coissued-read : tells 0xFFFF0101 (0x40000001 ∷ 0x810F0000 ∷ 0xA0E40000 ∷ []) 0 ≡
+    yes 3 (coissued 1 (scaled 0 0 0xF 1 ∷ source 2 0 0xE4 ∷ noOperand ∷ noOperand ∷ noOperand ∷ noOperand ∷ []))
+unfolding tells yes scaled source coissued firstRows entryOf tokenAt declaration classOf tokenHead operand operands judged operandOf operandAt widthAt inOrder predicateOr arrayOf recordOf readingAt reading toldReading
+coissued-read = refl
 
 comment-and-end-read :
     tells 0xFFFE0200 (0x0002FFFE ∷ 7 ∷ 8 ∷ 0x0000FFFF ∷ []) 0 ∷ tells 0xFFFE0200 (0x0002FFFE ∷ 7 ∷ 8 ∷ 0x0000FFFF ∷ []) 3 ∷ [] ≡

@@ -16,7 +16,7 @@ use Rattle.paper.specs.declared.Judged.the-variants.{Good as Lawful, Refused as
 use Rattle.paper.proofs.Bools.{apart}
 use Rattle.paper.proofs.OneInstruction.{judged-near}
 use Rattle.paper.proofs.OwnTokens.{good-within}
-use Rattle.opcodes.specs.Classes.{classNumber}
+use Rattle.shapes.specs.Classes.{classNumber}
 use Rattle.told.specs.Numbered.{judgedNumber, isRefusal, sizeIn, kindIn}
 use Rattle.told.proofs.Numbers.{yes-even, yes-size, yes-class, refusal-odd, refusal-position, refusal-reason}
 use Rattle.stretches.specs.Stretch.{toldAt}

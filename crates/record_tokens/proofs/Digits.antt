@@ -5,10 +5,10 @@ use native.Mathlib.Nat.{mod-add-div, div-div-eq-div-mul, mod-lt, div-one}
 use native.Mathlib.Omega.{arith}
 use lib.Dec.{lit<}
 use Rattle.paper.specs.Notation.{bits, bit}
-use Rattle.paper.specs.InstructionToken.{opcodeOf, controlsOf, statedSize, commentLength}
+use Rattle.paper.specs.InstructionToken.{opcodeOf, controlsOf, statedSize, isCoissued, commentLength}
 use Rattle.paper.specs.OperandTokens.{numberField, typeOf, modifierOf}
-use Rattle.records.specs.Record.{maskOf, resultOf, swizzleOf}
-use Rattle.record_tokens.specs.Tokens.{tokenOf}
+use Rattle.records.specs.Record.{maskOf, resultOf, shiftOf, swizzleOf}
+use Rattle.record_tokens.specs.Tokens.{tokenOf, headToken}
 
 -- what stands above a, by the digit below b
 split : (t a b : ℕ) → t / a ≡ t / a % b + b * (t / (a * b))
@@ -52,32 +52,36 @@ three x = omega arith
 one : (x : ℕ) → x % 32 ≡ x % 2 + 2 * (x / 2 % 16)
 one x = omega arith
 
--- the upper digits of a destination's are zero
-destination-digits : (x : ℕ) → x / 128 % 2 ≡ 0 → x / 256 % 16 ≡ 0 → x % 4096 ≡ x % 16 + 16 * (x / 16 % 8)
-destination-digits x a b =
+-- a digit of a destination's is zero
+destination-digits : (x : ℕ) → x / 128 % 2 ≡ 0 → x % 4096 ≡ x % 16 + (16 * (x / 16 % 8) + 256 * (x / 256 % 16))
+destination-digits x a =
     rw (four x, three (x / 16), ← above x 16 8, one (x / 128), ← above x 128 2) (omega arith)
 
 pub source-middle : (t : ℕ) → bits 27 16 t ≡ swizzleOf t + 2 ^ 8 * modifierOf t
 source-middle t = rw (above t 65536 256) (source-digits (t / 65536))
 
-pub destination-middle : (t : ℕ) → bit 23 t ≡ 0 → bits 27 24 t ≡ 0 → bits 27 16 t ≡ maskOf t + 2 ^ 4 * resultOf t
-destination-middle t a b =
-    rw (above t 65536 16) (destination-digits (t / 65536) (rw (above t 65536 128) at a) (rw (above t 65536 256) at b))
+pub destination-middle : (t : ℕ) → bit 23 t ≡ 0 → bits 27 16 t ≡ maskOf t + (2 ^ 4 * resultOf t + 2 ^ 8 * shiftOf t)
+destination-middle t a =
+    rw (above t 65536 16, above t 65536 256) (destination-digits (t / 65536) (rw (above t 65536 128) at a))
 
--- an instruction token
-glue-instruction : (o c s p : ℕ) {t q0 q1 q2 q3 : ℕ} → t ≡ o + 65536 * q0 → q0 ≡ c + 256 * q1 → q1 ≡ s + 16 * q2 → q2 ≡ p + 2 * q3 → q3 ≡ 0 →
-    o + (65536 * c + (16777216 * s + 268435456 * p)) ≡ t
-glue-instruction o c s p a b d e f = omega arith
+-- an instruction token; where bits 29:16 are zero, bit 29 is
+last-digit : (x : ℕ) → x % 16384 ≡ 0 → x / 8192 % 2 ≡ 0
+last-digit x z = omega arith
 
-none-above : (t : ℕ) → t < 2 ^ 32 → t / 2 ^ 29 ≡ t / 2 ^ 29 % 8
-none-above t h = omega arith
+pub reserved-zero : (t : ℕ) → bits 29 16 t ≡ 0 → bit 29 t ≡ 0
+reserved-zero t zeros = rw (above t 65536 8192) (last-digit (t / 65536) zeros)
 
-pub instruction-back : (t : ℕ) → t < 2 ^ 32 → bits 31 29 t ≡ 0 →
-    opcodeOf t + (2 ^ 16 * controlsOf t + (2 ^ 24 * statedSize t + 2 ^ 28 * bit 28 t)) ≡ t
-instruction-back t word zeros =
+glue-instruction : (o c s p z i : ℕ) {t q0 q1 q2 q3 q4 q5 : ℕ} → t ≡ o + 65536 * q0 → q0 ≡ c + 256 * q1 → q1 ≡ s + 16 * q2 → q2 ≡ p + 2 * q3 →
+    q3 ≡ z + 2 * q4 → q4 ≡ i + 2 * q5 → z ≡ 0 → q5 ≡ 0 → o + (65536 * c + (16777216 * s + (268435456 * p + 1073741824 * i))) ≡ t
+glue-instruction o c s p z i a b d e f g j k = omega arith
+
+pub instruction-back : (t : ℕ) → t < 2 ^ 32 → bit 29 t ≡ 0 → bit 31 t ≡ 0 →
+    headToken (opcodeOf t) (controlsOf t) (statedSize t) (bit 28 t) (isCoissued t) ≡ t
+instruction-back t word zero last =
     rw (div-one t)
-    (glue-instruction (t % 65536) (t / 65536 % 256) (t / 16777216 % 16) (t / 268435456 % 2) (sym (mod-add-div t 65536)) (split t 65536 256) (split t 16777216 16) (split t 268435456 2)
-    (none-above t word ∙ zeros))
+    (glue-instruction (t % 65536) (t / 65536 % 256) (t / 16777216 % 16) (t / 268435456 % 2) (t / 536870912 % 2) (t / 1073741824 % 2)
+    (sym (mod-add-div t 65536)) (split t 65536 256) (split t 16777216 16) (split t 268435456 2) (split t 536870912 2) (split t 1073741824 2) zero
+    (top t word ∙ last))
 
 glue-comment : (o n : ℕ) {t q0 q1 : ℕ} → t ≡ o + 65536 * q0 → q0 ≡ n + 32768 * q1 → q1 ≡ 0 → o + 65536 * n ≡ t
 glue-comment o n a b c = omega arith

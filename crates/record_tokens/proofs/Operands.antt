@@ -12,12 +12,12 @@ use Rattle.paper.specs.Notation.{pick, bits, bit}
 use Rattle.paper.specs.Versions.{isPixel}
 use Rattle.paper.specs.OperandTokens.{numberField, typeOf, modifierOf, bothLaid, relativeLaid, destinationLaid, sourceLaid, laid, bringsRelative}
 use Rattle.paper.specs.declared.Version.{Version}
-use Rattle.paper.proofs.Bools.{both-left, both-right, or-false, apart}
+use Rattle.paper.proofs.Bools.{both-left, both-right, or-false, never}
 use Rattle.paper.specs.Places.{Place, relative, isRaw, isDestination, isPredicate}
-use Rattle.opcodes.proofs.Shapes.{unpredicated}
-use Rattle.records.proofs.PlaceKinds.{laid-by, brings-by}
+use Rattle.shapes.proofs.Shapes.{unpredicated}
+use Rattle.records.proofs.PlaceKinds.{laid-by, free-unraw}
 use Rattle.records.specs.declared.Operand.{Operand}
-use Rattle.records.specs.Record.{maskOf, resultOf, swizzleOf, noOperand, destinationOperand, sourceOperand, operandOf, widthAt, operandAt, inOrder, predicateOr, padded}
+use Rattle.records.specs.Record.{maskOf, resultOf, shiftOf, swizzleOf, noOperand, destinationOperand, sourceOperand, operandOf, widthAt, operandAt, inOrder, predicateOr, padded}
 use Rattle.records.specs.ByClass.{ordered}
 use Rattle.records.proofs.Filled.{width-some}
 use Rattle.records.proofs.Passed.{Passed, AllPassed, none, more}
@@ -34,7 +34,7 @@ module _ (v : Version) (place : Place) (t : ℕ) (word : t < 2 ^ 32) where
   unfolding operandToken
   source-back follower l =
       let both = both-left (bothLaid t) _ l in
-      let middle : 0 + swizzleOf t + (2 ^ 4 * 0 + 2 ^ 8 * modifierOf t) ≡ bits 27 16 t = omega (arith, source-middle t) in
+      let middle : 0 + swizzleOf t + (2 ^ 4 * 0 + 2 ^ 8 * (modifierOf t + 0)) ≡ bits 27 16 t = omega (arith, source-middle t) in
       ap (tokenOf (numberField t) (typeOf t) (bit 13 t)) middle ∙ fields-back both
 
   destination-back : (follower : ℕ) → destinationLaid v place t ≡ true → operandToken (destinationOperand t follower) ≡ t
@@ -43,8 +43,7 @@ module _ (v : Version) (place : Place) (t : ℕ) (word : t < 2 ^ 32) where
       let both = both-left (bothLaid t) _ l in
       let rest = both-right (eqb (bits 22 21 t) 0 || isPixel v) _ (both-right (bothLaid t) _ l) in
       let a = eqb-true (bit 23 t) 0 (both-left (eqb (bit 23 t) 0) _ rest) in
-      let b = eqb-true (bits 27 24 t) 0 (both-left (eqb (bits 27 24 t) 0) _ (both-right (eqb (bit 23 t) 0) _ rest)) in
-      let middle : maskOf t + 0 + (2 ^ 4 * resultOf t + 2 ^ 8 * 0) ≡ bits 27 16 t = omega (arith, destination-middle t a b) in
+      let middle : maskOf t + 0 + (2 ^ 4 * resultOf t + 2 ^ 8 * (0 + shiftOf t)) ≡ bits 27 16 t = omega (arith, destination-middle t a) in
       ap (tokenOf (numberField t) (typeOf t) (bit 13 t)) middle ∙ fields-back both
 
 -- a relative token has no modifier and no relative token of its own
@@ -82,11 +81,11 @@ module _ (v : Version) (place : Place) (t u : ℕ) (no-raw : isRaw place ≡ fal
   marked true d = rw (no-raw, d)
   marked false d = rw (no-raw, d)
 
-  one-token : t < 2 ^ 32 → laid v place t ≡ true → eqb (bit 13 t) 1 ≡ false → operandTokens place (operandOf place t u) ≡ t ∷ []
+  one-token : t < 2 ^ 32 → laid v place t ≡ true → bringsRelative place t ≡ false → operandTokens place (operandOf place t u) ≡ t ∷ []
   unfolding operandTokens
   one-token word l b = rw (no-raw, first-back word l (isDestination place) refl, marked (isDestination place) refl, b)
 
-  two-tokens : t < 2 ^ 32 → laid v place t ≡ true → eqb (bit 13 t) 1 ≡ true → u < 2 ^ 32 → laid v relative u ≡ true →
+  two-tokens : t < 2 ^ 32 → laid v place t ≡ true → bringsRelative place t ≡ true → u < 2 ^ 32 → laid v relative u ≡ true →
       operandTokens place (operandOf place t u) ≡ t ∷ (u ∷ [])
   unfolding operandTokens
   two-tokens word l b word-u l-u =
@@ -97,11 +96,11 @@ unfolding operandTokens operandOf
 raw-token place t u e = rw e
 
 module _ (v : Version) (place : Place) (t : ℕ) (rest : List ℕ) (words : Words (t ∷ rest)) where
-  operand-by : (unread brings : Bool) (tail : List ℕ) → rest ≡ tail → isRaw place ≡ unread → pick unread false (eqb (bit 13 t) 1) ≡ brings →
+  operand-by : (unread brings : Bool) (tail : List ℕ) → rest ≡ tail → isRaw place ≡ unread → bringsRelative place t ≡ brings →
       laid v place t ≡ true → (brings ≡ true → laid v relative (getD tail 0 0) ≡ true) → pick brings 2 1 ≤ suc (length tail) →
       operandTokens place (operandOf place t (pick brings (getD tail 0 0) 0)) ≡ take (pick brings 2 1) (t ∷ tail)
   unfolding Words
-  operand-by true true tail e r b l s h = apart (cc)
+  operand-by true true tail e r b l s h = never (rw (free-unraw place r) at b)
   operand-by true false tail e r b l s h = raw-token place t 0 r
   operand-by false true [] e r b l s h = absurd (omega arith)
   operand-by false true (u ∷ tail) e r b l s h =
@@ -113,7 +112,7 @@ operand-back : (v : Version) (place : Place) (tokens : List ℕ) → Words token
 unfolding operandAt widthAt
 operand-back v place [] words p = absurd (omega (arith, p .there, width-some place []))
 operand-back v place (t ∷ rest) words p =
-    operand-by v place t rest words (isRaw place) (bringsRelative place t) rest refl refl (sym (brings-by place t)) (p .first-laid) (p .second-laid) (p .there)
+    operand-by v place t rest words (isRaw place) (bringsRelative place t) rest refl refl refl (p .first-laid) (p .second-laid) (p .there)
 
 pub words-drop : (n : ℕ) (tokens : List ℕ) → Words tokens → Words (drop n tokens)
 unfolding Words

@@ -1,41 +1,28 @@
 -- A good declaration: its tokens are U and a destination that has no relative token.
-use mathlib.Core.Path.{_≡_, refl, sym, _∙_}
-use mathlib.Core.Bool.{Bool, true, false, _&&_, _||_}
+use mathlib.Core.Path.{_≡_, refl}
+use mathlib.Core.Bool.{Bool, true, false, _&&_}
 use mathlib.Core.List.{List, [], _∷_}
 use Prim.Native.Nat.{ℕ}
 use native.Mathlib.Omega.{arith}
-use lib.Dec.{eqb}
-use borrow.Author.Tests.{eqb-true}
-use Rattle.paper.specs.Notation.{pick, bit, bits}
-use Rattle.paper.specs.OperandTokens.{typeOf, bringsRelative, bothLaid, relativeLaid, laid, leftOver, refusedOperands}
-use Rattle.paper.specs.Versions.{isPixel}
+use Rattle.paper.specs.Notation.{pick}
+use Rattle.paper.specs.OperandTokens.{typeOf, laid, leftOver, refusedOperands}
 use Rattle.paper.specs.Dcl.{declaration, isDeclared, declaredAt, faceLaid, usageLaid, onDeclared}
 use Rattle.paper.specs.declared.Version.{Version}
 use Rattle.paper.specs.declared.Reason.the-variants.{Operand as OPERAND}
 use Rattle.paper.specs.declared.Token.{Token}
 use Rattle.paper.specs.declared.Token.the-variants.{Good, Bad}
 use Rattle.paper.specs.declared.Operands.the-variants.{Fit}
-use Rattle.paper.proofs.Bools.{apart, never, both-left, both-right, or-false}
-use Rattle.paper.specs.Places.{Place, usage as U, declared}
+use Rattle.paper.proofs.DclRow.{declaredRow}
+use Rattle.paper.proofs.Bools.{apart, never, both-left}
+use Rattle.paper.specs.Places.{usage as U, declared}
 use Rattle.records.specs.Record.{widthAt}
 use Rattle.records.proofs.Passed.{Passed, AllPassed, none, step, laid-and-typed}
 
--- DCL's row of the table: U, then its destination
-abbrev pub declaredRow : List Place
-declaredRow = U ∷ declared ∷ []
-
--- a declared destination has no relative token
+-- a declared destination is laid out as one, and has no relative token
 pub declared-laid : (v : Version) (d : ℕ) → declaredAt v d ≡ Good → laid v declared d ≡ true
 declared-laid v d g =
     both-left (laid v declared d) (faceLaid v d)
     (laid-and-typed (laid v declared d && faceLaid v d) (isDeclared v (typeOf d)) g)
-
-pub declared-plain : (v : Version) (d : ℕ) → laid v declared d ≡ true → bit 13 d ≡ 0
-declared-plain v d l =
-    let pixel = both-right (bothLaid d) _ l in
-    let zeros = both-right (eqb (bits 22 21 d) 0 || isPixel v) _ pixel in
-    let fixed = both-right (eqb (bit 23 d) 0) _ zeros in
-    eqb-true (bit 13 d) 0 (sym (or-false (eqb (bit 13 d) 0)) ∙ (both-right (eqb (bits 27 24 d) 0) (relativeLaid v declared d) fixed))
 
 -- what a good declaration is
 pub record Declared (v : Version) (u d : ℕ) (rest : List ℕ) : Type 0 where
@@ -62,9 +49,6 @@ module _ (v : Version) (u d : ℕ) (rest : List ℕ) where
 
 -- U and the destination of a good declaration
 module _ (v : Version) (u d : ℕ) (l : laid v declared d ≡ true) where
-  plain : bringsRelative declared d ≡ false
-  plain = rw (declared-plain v d l)
-
   usage-passed : Passed v U (u ∷ (d ∷ [])) 1
   unfolding widthAt
   usage-passed =
@@ -73,7 +57,7 @@ module _ (v : Version) (u d : ℕ) (l : laid v declared d ≡ true) where
   destination-passed : Passed v declared (d ∷ []) 1
   unfolding widthAt
   destination-passed =
-      record { width = rw plain; there = omega arith; first-laid = l; second-laid = λ t. never (sym plain ∙ t) }
+      record { width = refl; there = omega arith; first-laid = l; second-laid = λ t. never t }
 
   both-passed : AllPassed v declaredRow (u ∷ (d ∷ []))
   both-passed = step usage-passed (step destination-passed none)

@@ -1,11 +1,10 @@
 -- What the kinds of places say of a token.
 use mathlib.Core.Path.{_≡_, refl, sym}
-use mathlib.Core.Bool.{Bool, true, false, not, _&&_}
+use mathlib.Core.Bool.{true, false}
 use Prim.Native.Nat.{ℕ}
-use lib.Dec.{eqb}
-use Rattle.paper.specs.Notation.{pick, bit}
+use Rattle.paper.specs.Notation.{pick}
 use Rattle.paper.specs.Places.{Place, raw, usage, declared, destination, source, condition, predicate, relative, isRaw, isDestination}
-use Rattle.paper.specs.OperandTokens.{destinationLaid, sourceLaid, laid, bringsRelative}
+use Rattle.paper.specs.OperandTokens.{isFree, destinationLaid, sourceLaid, laid}
 use Rattle.paper.proofs.Bools.{never}
 use Rattle.paper.specs.declared.Version.{Version}
 
@@ -20,9 +19,13 @@ laid-by v condition token r = refl
 laid-by v predicate token r = refl
 laid-by v relative token r = refl
 
-pub brings-by : (place : Place) (token : ℕ) → bringsRelative place token ≡ pick (isRaw place) false (eqb (bit 13 token) 1)
-brings-by place token = by (isRaw place)
-  where
-    by : (b : Bool) → (not b && eqb (bit 13 token) 1) ≡ pick b false (eqb (bit 13 token) 1)
-    by true = refl
-    by false = refl
+-- a place that is free is not kept as it stands
+pub free-unraw : (place : Place) → isRaw place ≡ true → isFree place ≡ false
+free-unraw raw r = refl
+free-unraw usage r = refl
+free-unraw declared r = never r
+free-unraw (destination types) r = never r
+free-unraw (source types) r = never r
+free-unraw condition r = never r
+free-unraw predicate r = never r
+free-unraw relative r = never r

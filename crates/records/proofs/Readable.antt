@@ -20,7 +20,7 @@ use Rattle.paper.proofs.Bools.{apart}
 use Rattle.paper.proofs.FirstToken.{Says, is-broken, is-comment, is-end, is-listed, says}
 use Rattle.paper.proofs.OwnTokens.{operands-good, good-claim}
 use Rattle.blocks.proofs.Classes.{class-has}
-use Rattle.opcodes.specs.Classes.{classNumber}
+use Rattle.shapes.specs.Classes.{classNumber}
 use Rattle.instruction_token.proofs.ByShape.{places-back}
 use Rattle.records.specs.Record.{recordOn}
 use Rattle.records.specs.ByClass.{rowBy, recordBy, widthOf, ordered, Readable}

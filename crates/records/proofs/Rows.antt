@@ -1,4 +1,4 @@
--- The row of places of an instruction of the table: DCL's, how many operands it has, and that tokens which fit it pass.
+-- The row of places of an instruction of the table: how many operands it has, and that tokens which fit it pass.
 use mathlib.Core.Path.{_≡_, refl, sym, ap, _∙_}
 use mathlib.Core.Bool.{Bool, true, false}
 use mathlib.Core.List.{List, [], _∷_}
@@ -8,30 +8,22 @@ use lib.Dec.{eqb}
 use lib.ListN.{length}
 use borrow.Author.Tests.{eqb-true}
 use Rattle.paper.specs.Notation.{pick}
-use Rattle.paper.specs.OpcodeTable.{DCL, rows}
+use Rattle.paper.specs.OpcodeTable.{DCL}
 use Rattle.paper.specs.InstructionToken.{opcodeOf, hasDestination, isPredicated, bitsLaid, withPredicate}
 use Rattle.paper.specs.Dcl.{declaration}
 use Rattle.paper.specs.Instruction.{operands, operandsOf}
 use Rattle.paper.specs.Versions.{hasPredicates}
-use Rattle.paper.specs.Places.{listed, entryOf, typedPlaces, Place, isPredicate}
+use Rattle.paper.specs.Places.{listed, entryOf, Place, isPredicate}
 use Rattle.paper.specs.declared.Version.{Version}
-use Rattle.paper.specs.declared.Version.the-variants.{V2, V3, P2, P3}
 use Rattle.paper.specs.declared.Operands.the-variants.{Fit}
 use Rattle.paper.proofs.Bools.{never, both-right}
-use Rattle.opcodes.proofs.Shapes.{few}
+use Rattle.paper.proofs.DclRow.{declaredRow, declared-entry}
+use Rattle.shapes.proofs.Shapes.{few}
 use Rattle.instruction_token.proofs.ByShape.{may-be}
 use Rattle.records.specs.Record.{predicateSlot}
 use Rattle.records.specs.ByClass.{ordered}
 use Rattle.records.proofs.Passed.{AllPassed, all-passed}
-use Rattle.records.proofs.Declared.{declaredRow, declared-passed}
-
--- DCL's row in the table
-declared-entry : (v : Version) → entryOf v DCL ≡ listed declaredRow
-unfolding entryOf rows typedPlaces
-declared-entry V2 = refl
-declared-entry V3 = refl
-declared-entry P2 = refl
-declared-entry P3 = refl
+use Rattle.records.proofs.Declared.{declared-passed}
 
 -- at most five operands stand in token order
 at-most : (b : Bool) (n m : ℕ) → n ≤ m → pick b n (suc n) ≤ suc m
@@ -53,8 +45,7 @@ ordered-predicated false (place ∷ row) = ordered-few (place ∷ row)
 module _ (v : Version) (token : ℕ) (places : List Place) (e : entryOf v (opcodeOf token) ≡ listed places) (laid : bitsLaid v token places ≡ true) where
   dcl-row : opcodeOf token ≡ DCL → withPredicate (isPredicated token) places ≡ declaredRow
   dcl-row d =
-      let same : listed places ≡ listed declaredRow = sym e ∙ ap (entryOf v) d ∙ declared-entry v in
-      let row : places ≡ declaredRow = cc in
+      let row : places ≡ declaredRow = declared-entry v places (sym (ap (entryOf v) d) ∙ e) in
       by row (isPredicated token) refl
     where
       by : places ≡ declaredRow → (predicated : Bool) → isPredicated token ≡ predicated → withPredicate (isPredicated token) places ≡ declaredRow

@@ -11,8 +11,8 @@ use Rattle.paper.specs.declared.Single.the-variants.{Comment}
 use Rattle.paper.specs.declared.Closer.the-variants.{End}
 use Rattle.paper.specs.declared.Class.the-variants.{One, Closes}
 use Rattle.places.specs.Places.{decoded}
-use Rattle.opcodes.specs.Classes.{classNumber}
-use Rattle.opcodes.specs.Shape.{shapeOf}
+use Rattle.shapes.specs.Classes.{classNumber}
+use Rattle.shapes.specs.Shape.{shapeOf}
 use Rattle.instruction_token.specs.ByShape.{placesBy}
 use Rattle.records.specs.declared.Record.{Record}
 use Rattle.records.specs.Record.{predicateSlot, widthAt, arrayOf, endRecord, commentRecord, instructionRecord}

@@ -1,10 +1,10 @@
--- Document 01, "Records": "A record holds opcode, controls, the predicated mark and a fixed array of operands, each with its fields and its
--- relative token's. Unused places are zero, so one instruction has one record. A comment's record holds its length; .. END has a record too."
+-- Document 01, "Records", with document 02's Q-4: "A record holds opcode, controls, the predicated mark and a fixed array of operands, each with
+-- its fields and its relative token's. Unused places are zero, so one instruction has one record. A comment's record holds its length; .. END has a record too."
 use Prim.Native.Nat.{ℕ, zero, suc}
 use mathlib.Core.List.{List, [], _∷_, _++_}
 use lib.ListN.{take, drop, getD}
 use Rattle.paper.specs.Notation.{bits, bit, pick}
-use Rattle.paper.specs.InstructionToken.{opcodeOf, controlsOf, commentOpcode, commentLength, endOpcode}
+use Rattle.paper.specs.InstructionToken.{opcodeOf, controlsOf, isCoissued, commentOpcode, commentLength, endOpcode}
 use Rattle.paper.specs.OperandTokens.{numberField, typeOf, modifierOf, bringsRelative}
 use Rattle.paper.specs.Instruction.{Head, broken, end, comment, operation, tokenHead}
 use Rattle.paper.specs.declared.Version.{Version}
@@ -22,6 +22,10 @@ resultOf token = bits 22 20 token
 abbrev pub swizzleOf : ℕ → ℕ
 swizzleOf token = bits 23 16 token
 
+-- "Destination bits 27:24, the shift scale"
+abbrev pub shiftOf : ℕ → ℕ
+shiftOf token = bits 27 24 token
+
 -- R and U are held as they stand
 abbrev pub rawOperand : ℕ → Operand
 rawOperand token =
@@ -32,6 +36,7 @@ rawOperand token =
       swizzle = 0;
       modifier = 0;
       result = 0;
+      shift = 0;
       relative = 0;
       «relative_number» = 0;
       «relative_kind» = 0;
@@ -43,7 +48,7 @@ rawOperand token =
 abbrev pub noOperand : Operand
 noOperand = rawOperand 0
 
--- a destination and its relative token, 0 where it has none
+-- a destination and its relative token, 0 where it has none; in vs_1_1 a source whose bit 13 is one has none
 abbrev pub destinationOperand : ℕ → ℕ → Operand
 destinationOperand token relative =
     record {
@@ -53,6 +58,7 @@ destinationOperand token relative =
       swizzle = 0;
       modifier = 0;
       result = resultOf token;
+      shift = shiftOf token;
       relative = bit 13 token;
       «relative_number» = numberField relative;
       «relative_kind» = typeOf relative;
@@ -69,6 +75,7 @@ sourceOperand token relative =
       swizzle = swizzleOf token;
       modifier = modifierOf token;
       result = 0;
+      shift = 0;
       relative = bit 13 token;
       «relative_number» = numberField relative;
       «relative_kind» = typeOf relative;
@@ -121,7 +128,7 @@ arrayOf places tokens = padded predicateSlot (inOrder places tokens) ++ (predica
 
 -- a record without operands
 abbrev pub emptyRecord : ℕ → ℕ → Record
-emptyRecord opcode n = record { opcode = opcode; controls = 0; predicated = 0; extent = n; operands = padded operandCount [] }
+emptyRecord opcode n = record { opcode = opcode; controls = 0; predicated = 0; coissue = 0; extent = n; operands = padded operandCount [] }
 
 abbrev pub noRecord : Record
 noRecord = emptyRecord 0 0
@@ -132,10 +139,10 @@ endRecord = emptyRecord endOpcode 0
 abbrev pub commentRecord : ℕ → Record
 commentRecord n = emptyRecord commentOpcode n
 
--- any other instruction, from its first token and its operands
+-- any other instruction, from its first token and its operands; "co-issue bit 30, kept in the record"
 abbrev pub instructionRecord : ℕ → List Operand → Record
 instructionRecord first operands =
-    record { opcode = opcodeOf first; controls = controlsOf first; predicated = bit 28 first; extent = 0; operands = operands }
+    record { opcode = opcodeOf first; controls = controlsOf first; predicated = bit 28 first; coissue = isCoissued first; extent = 0; operands = operands }
 
 abbrev pub recordOn : Head → ℕ → List ℕ → Record
 recordOn (broken reason) first rest = noRecord

@@ -24,7 +24,7 @@ use Rattle.paper.specs.declared.Class.the-variants.{One}
 use Rattle.paper.specs.declared.Single.the-variants.{Comment, Plain}
 use Rattle.paper.specs.declared.Judged.{Judged}
 use Rattle.paper.specs.declared.Judged.the-variants.{Good, Refused as Unfit}
-use Rattle.opcodes.proofs.Shapes.{class-few}
+use Rattle.shapes.proofs.Shapes.{class-few}
 use Rattle.told.specs.Numbered.{refusalNumber, judgedNumber, judgedFrom, isPlain, sizeIn}
 use Rattle.stretches.specs.declared.Stretch.{Stretch}
 use Rattle.instruction.specs.Shown.{judgedWith, judgedIn}

@@ -1,26 +1,26 @@
 -- Laws of one token at its place.
-use mathlib.Core.Path.{_≡_, refl, sym}
-use mathlib.Core.Bool.{Bool, true, false, _||_}
-use mathlib.Core.List.{[], _∷_}
+use mathlib.Core.Path.{_≡_, refl, sym, _∙_}
+use mathlib.Core.Bool.{Bool, true, false, not, _||_}
+use mathlib.Core.List.{List, [], _∷_}
 use Prim.Native.Nat.{ℕ, zero, suc, _*_, _%_, _^_, _<_, _≤_}
-use native.Mathlib.Nat.{one-mul, mod-eq-of-lt, pow-le-pow-right}
+use native.Mathlib.Nat.{add-zero, one-mul, mod-lt, mod-eq-of-lt, pow-le-pow-right}
 use native.Mathlib.Omega.{arith}
-use lib.Dec.{eqb, leb, lit<}
-use borrow.Author.Tests.{eqb-true, leb-true}
-use Rattle.paper.specs.Notation.{bits, bit, among}
-use Rattle.paper.specs.Versions.{isPixel}
-use Rattle.paper.specs.OperandTokens.{modifierOf, plainModifiers, predicateTypes, bothLaid, isFree, mayBeRelative, modifierLaid, destinationLaid, sourceLaid, laid, typed, typeOf, layoutThenType, tokenAt, bringsRelative}
+use lib.Dec.{eqb, leb, ltb, lit<}
+use borrow.Author.Tests.{eq-eqb, ne-eqb, leb-true, ltb-true, le-ltb, not-true}
+use Rattle.paper.specs.Notation.{bits, bit, pick, among}
+use Rattle.paper.specs.OperandTokens.{modifierOf, plainModifiers, predicateTypes, isFree, destinationLaid, sourceLaid, laid, typed, typeOf, tokenAt}
 use Rattle.versions.specs.Sets.{setOf, holds}
-use Rattle.versions.proofs.Sets.{Agrees, set-among}
+use Rattle.versions.proofs.Sets.{Agrees, set-among, one-among}
 use Rattle.versions.proofs.Types.{type-small}
-use Rattle.places.specs.Places.{placeBy, onlyType}
+use Rattle.places.specs.Places.{onlyType, typesBy, placeBy}
 use Rattle.places.proofs.Places.{by-place}
-use Rattle.paper.specs.Numbers.{toldToken}
 use Rattle.paper.specs.declared.Version.{Version}
 use Rattle.paper.specs.declared.Token.the-variants.{Good}
 use Rattle.paper.proofs.Bools.{both-left, both-right, never}
-use Rattle.paper.specs.Places.{free, only, Place, raw, usage, declared, destination, source, condition, predicate, relative, freeSource, freeDestination, isRaw, isDestination}
+use Rattle.paper.proofs.Below.{below, below-at}
+use Rattle.paper.specs.Places.{Types, only, Place, raw, usage, declared, destination, source, condition, predicate, relative, isRaw, isDestination}
 use Rattle.tokens.specs.Plain.{plainSource, plainDestination}
+use Rattle.tokens.specs.Tabled.{isTabled, typesAt}
 
 -- "R any 32 bits"; of U nothing is told by itself
 pub raw-good : (v : Version) (place : Place) (token : ℕ) → isRaw place ≡ true → Good ≡ tokenAt v place token
@@ -34,16 +34,9 @@ raw-good v condition token r = never r
 raw-good v predicate token r = never r
 raw-good v relative token r = never r
 
-killed-agree : Agrees (0 ∷ 3 ∷ [])
-unfolding holds
-killed-agree = refl
-
 predicate-agree : Agrees predicateTypes
 unfolding holds
 predicate-agree = refl
-
-pub killed-types : (token : ℕ) → holds (setOf (0 ∷ 3 ∷ [])) (typeOf token) ≡ among (typeOf token) (0 ∷ 3 ∷ [])
-killed-types token = set-among (0 ∷ 3 ∷ []) killed-agree (typeOf token) (type-small token)
 
 pub predicate-types : (token : ℕ) → holds (setOf predicateTypes) (typeOf token) ≡ among (typeOf token) predicateTypes
 predicate-types token = set-among predicateTypes predicate-agree (typeOf token) (type-small token)
@@ -61,8 +54,8 @@ unnegated (suc zero) h = refl
 unnegated (suc (suc n)) h = absurd (omega arith)
 
 -- what is plain is laid as every version allows
-pub plain-source-laid : (v : Version) (token : ℕ) → plainSource token ≡ true → sourceLaid v freeSource token ≡ true
-plain-source-laid v token t₀ =
+pub plain-source-laid : (v : Version) (types : Types) (token : ℕ) → plainSource token ≡ true → sourceLaid v (source types) token ≡ true
+plain-source-laid v types token t₀ =
     let t₁ = both-right (eqb (bits 15 14 token) 0) _ t₀ in
     let t₂ = both-right (eqb (bit 13 token) 0) _ t₁ in
     let modifier : bits 27 24 token ≤ 1 = leb-true (bits 27 24 token) 1 (both-left (leb (bits 27 24 token) 1) _ t₂) in
@@ -73,8 +66,8 @@ plain-source-laid v token t₀ =
       unnegated (modifierOf token) modifier,
     )
 
-pub plain-destination-laid : (v : Version) (token : ℕ) → plainDestination token ≡ true → destinationLaid v freeDestination token ≡ true
-plain-destination-laid v token t₀ =
+pub plain-destination-laid : (v : Version) (types : Types) (token : ℕ) → plainDestination token ≡ true → destinationLaid v (destination types) token ≡ true
+plain-destination-laid v types token t₀ =
     let t₁ = both-right (eqb (bits 15 14 token) 0) _ t₀ in
     let t₂ = both-right (eqb (bit 13 token) 0) _ t₁ in
     let t₃ = both-right (eqb (bits 22 21 token) 0) _ t₂ in
@@ -88,6 +81,71 @@ plain-destination-laid v token t₀ =
       both-right (eqb (bits 27 24 token) 0) _ t₄,
     )
 
+-- a number that the tables have no types for has its one type
+pub untabled : (n : ℕ) → isTabled n ≡ false → typesBy n ≡ onlyType n ∷ []
+unfolding typesBy
+untabled n h =
+    rw (
+      ne-eqb n 56 (λ e. never (sym (rw e at h))),
+      ne-eqb n 57 (λ e. never (sym (rw e at h))),
+      ne-eqb n 58 (λ e. never (sym (rw e at h))),
+      ne-eqb n 59 (λ e. never (sym (rw e at h))),
+      ne-eqb n 87 (λ e. never (sym (rw e at h))),
+      ne-eqb n 88 (λ e. never (sym (rw e at h))),
+      ne-eqb n 89 (λ e. never (sym (rw e at h))),
+      ne-eqb n 90 (λ e. never (sym (rw e at h))),
+      ne-eqb n 91 (λ e. never (sym (rw e at h))),
+    )
+
+-- the table of types has no number from 92 on
+pub none-from : (n : ℕ) → 92 ≤ n → typesAt n ≡ 0
+unfolding typesAt
+none-from n h = rw (le-ltb n 92 h)
+
+-- what the table has of a place tells whether it has the place
+tabled-some : below (λ n. not (isTabled n) || not (eqb (typesAt n) 0)) 92 ≡ true
+unfolding typesAt typesBy
+tabled-some = refl
+
+some-types : (n : ℕ) → isTabled n ≡ true → eqb (typesAt n) 0 ≡ false
+some-types n t =
+    not-true _ (rw t at (below-at (λ n. not (isTabled n) || not (eqb (typesAt n) 0)) 92 n tabled-some (ltb-true n 92 (both-left (ltb n 92) _ t))))
+
+pub tabled-by : (n : ℕ) → (typesAt n ≡ 0 → ⊥) → isTabled n ≡ true
+unfolding typesAt
+tabled-by n some = by (isTabled n) some
+  where
+    by : (b : Bool) → (pick b (setOf (typesBy n)) 0 ≡ 0 → ⊥) → b ≡ true
+    by true h = refl
+    by false h = absurd (h refl)
+
+pub untabled-by : (n : ℕ) → typesAt n ≡ 0 → isTabled n ≡ false
+untabled-by n none = by (isTabled n) refl
+  where
+    by : (b : Bool) → isTabled n ≡ b → b ≡ false
+    by true t = never (sym (some-types n t) ∙ eq-eqb (typesAt n) 0 none)
+    by false t = refl
+
+-- the types of a number that has no name, by their set
+module _ (n token : ℕ) where
+  abbrev Held : List ℕ → Type 0
+  Held types = holds (setOf types) (typeOf token) ≡ among (typeOf token) types
+
+  several : (b : Bool) (types others : List ℕ) → Agrees types → Held others → Held (pick b types others)
+  several true types others tested held = set-among types tested (typeOf token) (type-small token)
+  several false types others tested held = held
+
+  pub types-held : Held (typesBy n)
+  unfolding typesBy holds
+  types-held =
+      several (eqb n 56) _ _ refl (several (eqb n 57) _ _ refl (several (eqb n 58) _ _ refl (several (eqb n 59) _ _ refl
+      (several (eqb n 87) _ _ refl (several (eqb n 88) _ _ refl (several (eqb n 89) _ _ refl (several (eqb n 90) _ _ refl (several (eqb n 91) _ _ refl
+      (rw add-zero (one-among (onlyType n) (typeOf token) (mod-lt n (lit< tt)) (type-small token)))))))))))
+
+pub types-tabled : (n token : ℕ) → isTabled n ≡ true → holds (typesAt n) (typeOf token) ≡ among (typeOf token) (typesBy n)
+unfolding typesAt
+types-tabled n token t = rw t (types-held n token)
+
 -- the places that are neither kept as they stand nor free
 module _ (v : Version) (token : ℕ) where
   abbrev LaidDestination : ℕ → Place → Type 0
@@ -95,7 +153,7 @@ module _ (v : Version) (token : ℕ) where
 
   pub typed-destination-at : (n : ℕ) → LaidDestination n (placeBy n)
   typed-destination-at =
-      by-place LaidDestination (λ r f d. never d) (λ r f d. never d) (λ r f d. refl) (λ r f d. refl) (λ r f d. never (sym f)) (λ r f d. never d)
+      by-place LaidDestination (λ r f d. never d) (λ r f d. never d) (λ r f d. refl) (λ r f d. never (sym f)) (λ r f d. never d)
       (λ r f d. never d) (λ r f d. never d) (λ r f d. never d) (λ n u h r f d. refl) (λ n u h r f d. never d)
 
   abbrev LaidSource : ℕ → Place → Type 0
@@ -104,55 +162,42 @@ module _ (v : Version) (token : ℕ) where
 
   pub typed-source-at : (n : ℕ) → LaidSource n (placeBy n)
   typed-source-at =
-      by-place LaidSource (λ r f d p e. never (sym r)) (λ r f d p e. never (sym r)) (λ r f d p e. never (sym d)) (λ r f d p e. never (sym d)) (λ r f d p e. never (sym f))
+      by-place LaidSource (λ r f d p e. never (sym r)) (λ r f d p e. never (sym r)) (λ r f d p e. never (sym d)) (λ r f d p e. never (sym f))
       (λ r f d p e. refl) (λ r f d p e. absurd (p refl)) (λ r f d p e. absurd (e refl)) (λ r f d p e. never (sym f)) (λ n u h r f d p e. never (sym d))
       (λ n u h r f d p e. refl)
 
-  abbrev OneType : ℕ → Place → Type 0
-  OneType n p =
-      isRaw p ≡ false → isFree p ≡ false → (n ≡ 62 → ⊥) → (n ≡ 92 → ⊥) → (n ≡ 93 → ⊥) → (n ≡ 94 → ⊥) → (n ≡ 61 → ⊥) →
-      typed v p (typeOf token) ≡ among (typeOf token) (onlyType n ∷ [])
+  abbrev Typed : ℕ → Place → Type 0
+  Typed n p =
+      isRaw p ≡ false → isFree p ≡ false → (n ≡ 92 → ⊥) → (n ≡ 93 → ⊥) → (n ≡ 94 → ⊥) → (n ≡ 61 → ⊥) →
+      typed v p (typeOf token) ≡ among (typeOf token) (typesBy n)
 
-  pub one-type : (n : ℕ) → OneType n (placeBy n)
-  one-type =
-      by-place OneType (λ r f k c p e d. never (sym r)) (λ r f k c p e d. never (sym r)) (λ r f k c p e d. absurd (d refl)) (λ r f k c p e d. absurd (k refl))
-      (λ r f k c p e d. never (sym f)) (λ r f k c p e d. absurd (c refl)) (λ r f k c p e d. absurd (p refl)) (λ r f k c p e d. absurd (e refl))
-      (λ r f k c p e d. never (sym f)) (λ n u h r f k c p e d. refl) (λ n u h r f k c p e d. refl)
+  pub typed-at : (n : ℕ) → Typed n (placeBy n)
+  typed-at =
+      by-place Typed (λ r f c p e d. never (sym r)) (λ r f c p e d. never (sym r)) (λ r f c p e d. absurd (d refl)) (λ r f c p e d. never (sym f))
+      (λ r f c p e d. absurd (c refl)) (λ r f c p e d. absurd (p refl)) (λ r f c p e d. absurd (e refl)) (λ r f c p e d. never (sym f))
+      (λ n u h r f c p e d. refl) (λ n u h r f c p e d. refl)
 
-told-laid : (l t : Bool) → toldToken (layoutThenType l t) ≡ 0 → l ≡ true
-told-laid true t e = refl
-told-laid false t e = absurd (omega arith)
+  -- a place of the tables: what is plain there is laid out, its layout is that of all its kind, and its types are those of its number
+  abbrev PlainLaid : ℕ → Place → Type 0
+  PlainLaid n p = isTabled n ≡ true → pick (isDestination p) (plainDestination token) (plainSource token) ≡ true → laid v p token ≡ true
 
-or-false : (b : Bool) → b || false ≡ true → b ≡ true
-or-false true t = t
-or-false false t = t
+  pub plain-laid : (n : ℕ) → PlainLaid n (placeBy n)
+  plain-laid =
+      by-place PlainLaid (λ u t. never u) (λ u t. never u) (λ u t. never u) (λ u t. never u) (λ u t. never u) (λ u t. never u) (λ u t. never u) (λ u t. never u)
+      (λ n x h u t. plain-destination-laid v (only (typesBy n)) token t) (λ n x h u t. plain-source-laid v (only (typesBy n)) token t)
 
-zero-not-one : (n : ℕ) → eqb n 0 || false ≡ true → eqb n 1 ≡ false
-zero-not-one n t = rw (eqb-true n 0 (or-false (eqb n 0) t))
+  abbrev OfItsKind : ℕ → Place → Type 0
+  OfItsKind n p = isTabled n ≡ true → pick (isDestination p) (laid v declared token) (laid v condition token) ≡ laid v p token
 
-module _ (v : Version) (place : Place) (token : ℕ) (n : mayBeRelative v place ≡ false) where
-  destination-not-relative : destinationLaid v place token ≡ true → eqb (bit 13 token) 1 ≡ false
-  destination-not-relative t =
-      let t₁ = both-right (bothLaid token) _ t in
-      let t₂ = both-right (eqb (bits 22 21 token) 0 || isPixel v) _ t₁ in
-      let t₃ = both-right (eqb (bit 23 token) 0) _ t₂ in
-      zero-not-one (bit 13 token) (rw n at (both-right (eqb (bits 27 24 token) 0) _ t₃))
+  pub of-its-kind : (n : ℕ) → OfItsKind n (placeBy n)
+  of-its-kind =
+      by-place OfItsKind (λ u. never u) (λ u. never u) (λ u. never u) (λ u. never u) (λ u. never u) (λ u. never u) (λ u. never u) (λ u. never u)
+      (λ n x h u. refl) (λ n x h u. refl)
 
-  source-not-relative : sourceLaid v place token ≡ true → eqb (bit 13 token) 1 ≡ false
-  source-not-relative t =
-      zero-not-one (bit 13 token) (rw n at (both-right (modifierLaid place (modifierOf token) (typeOf token)) _ (both-right (bothLaid token) _ t)))
+  abbrev OfItsTypes : ℕ → Place → Type 0
+  OfItsTypes n p = isTabled n ≡ true → typed v p (typeOf token) ≡ among (typeOf token) (typesBy n)
 
--- a token that is good at a place that is not free brings no relative one
-pub not-free-not-relative : (v : Version) (place : Place) (token : ℕ) → isFree place ≡ false →
-    toldToken (tokenAt v place token) ≡ 0 → bringsRelative place token ≡ false
-unfolding tokenAt
-not-free-not-relative v raw token f e = refl
-not-free-not-relative v usage token f e = refl
-not-free-not-relative v declared token f e = destination-not-relative v declared token refl (told-laid _ _ e)
-not-free-not-relative v (destination free) token f e = never (sym f)
-not-free-not-relative v (destination (only types)) token f e = destination-not-relative v (destination (only types)) token refl (told-laid _ _ e)
-not-free-not-relative v (source free) token f e = never (sym f)
-not-free-not-relative v (source (only types)) token f e = source-not-relative v (source (only types)) token refl (told-laid _ _ e)
-not-free-not-relative v condition token f e = source-not-relative v condition token refl (told-laid _ _ e)
-not-free-not-relative v predicate token f e = source-not-relative v predicate token refl (told-laid _ _ e)
-not-free-not-relative v relative token f e = source-not-relative v relative token refl (told-laid _ _ e)
+  pub of-its-types : (n : ℕ) → OfItsTypes n (placeBy n)
+  of-its-types =
+      by-place OfItsTypes (λ u. never u) (λ u. never u) (λ u. never u) (λ u. never u) (λ u. never u) (λ u. never u) (λ u. never u) (λ u. never u)
+      (λ n x h u. refl) (λ n x h u. refl)

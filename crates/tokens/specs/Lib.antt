@@ -1,2 +1,3 @@
--- The commonest tokens, known by one test.
+-- The commonest tokens, known by one test, and the places of the tables with their types.
 pub mod Plain
+pub mod Tabled

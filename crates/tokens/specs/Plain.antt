@@ -1,4 +1,4 @@
--- Tokens whose layout is right at a free place in every version.
+-- Tokens whose layout is right in every version, at a free place and at one that has no name.
 use Prim.Native.Nat.{ℕ}
 use mathlib.Core.Bool.{Bool, _&&_}
 use lib.Dec.{eqb, leb}

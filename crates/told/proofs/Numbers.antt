@@ -20,8 +20,8 @@ use Rattle.paper.specs.declared.Taken.{Taken}
 use Rattle.paper.specs.declared.Taken.the-variants.{Took, Refused as not-taken}
 use Rattle.paper.specs.declared.Judged.{Judged}
 use Rattle.paper.specs.declared.Judged.the-variants.{Good, Refused}
-use Rattle.opcodes.specs.Classes.{classNumber}
-use Rattle.opcodes.proofs.Shapes.{class-few}
+use Rattle.shapes.specs.Classes.{classNumber}
+use Rattle.shapes.proofs.Shapes.{class-few}
 use Rattle.told.specs.Numbered.{yesNumber, refusalNumber, judgedNumber, takenNumber, isRefusal, takenIn, sizeIn, kindIn, tellsPhase, classBy, judgedFrom}
 
 class-back : (c : Class) → classBy (classNumber c) ≡ c

@@ -1,10 +1,10 @@
-// Versions, and what each has: document 01, "What the build does", and what its other sections say of versions.
+// Versions, and what each has: document 01, "What the build does", and what its other sections and document 02's Q-4 say of versions.
 ghost use mathlib.Core.Path.{_≡_};
 ghost use Prim.Native.Nat.{_<_};
 ghost use Rattle.paper.specs.Notation.{among};
-ghost use Rattle.paper.specs.Versions.{has, named, isPixel, hasPredicates};
+ghost use Rattle.paper.specs.Versions.{has, named, isPixel, hasSizes, hasPredicates};
 ghost use Rattle.paper.specs.Numbers.{toldNamed};
-ghost use Rattle.paper.specs.OperandTokens.{relativeSources, relativeDestinations, typeOf, freeDestinationTypes, freeSourceTypes, conditionTypes, relativeTypes};
+ghost use Rattle.paper.specs.OperandTokens.{relativeSources, relativeDestinations, markedSources, hasShiftScale, hasFurther, typeOf, freeDestinationTypes, freeSourceTypes, conditionTypes, relativeTypes};
 ghost use Rattle.paper.specs.Dcl.{declaresFace};
 ghost use Rattle.versions.specs.Sets.{setOf, holds};
 ghost use Rattle.versions.specs.Rows.{formOf, rank, rowNumber, Tells};
@@ -21,6 +21,11 @@ fn found_by(token: u32) -> Named
         0xFFFE_0300 => Named::Known(Version::V3),
         0xFFFF_0200 => Named::Known(Version::P2),
         0xFFFF_0300 => Named::Known(Version::P3),
+        0xFFFE_0101 => Named::Known(Version::V1),
+        0xFFFF_0101 => Named::Known(Version::P11),
+        0xFFFF_0102 => Named::Known(Version::P12),
+        0xFFFF_0103 => Named::Known(Version::P13),
+        0xFFFF_0104 => Named::Known(Version::P14),
         _ => Named::Unknown,
     }
 }
@@ -44,7 +49,15 @@ const ADDRESSES: u64 = 0x1000_0000_0000;
 
 const FACE: u64 = 0x2000_0000_0000;
 
-const RANK: u64 = 0x4000_0000_0000;
+const SHIFT_SCALES: u64 = 0x4000_0000_0000;
+
+const FURTHER_MODIFIERS: u64 = 0x8000_0000_0000;
+
+const MARKED_SOURCES: u64 = 0x1_0000_0000_0000;
+
+const SIZES: u64 = 0x2_0000_0000_0000;
+
+const RANK: u64 = 0x4_0000_0000_0000;
 
 // Below them, a digit of base 4 for each register type: the form of U that DCL takes with it. These are the types that are declared.
 const INPUT: u64 = 1 << 2;
@@ -68,7 +81,7 @@ pub const PLAIN_FORM: u64 = 2;
 pub const USAGE_FORM: u64 = 3;
 
 // The rows.
-const VS_2_0: u64 = USAGE_FORM * INPUT + RELATIVE_SOURCES + ADDRESSES;
+const VS_2_0: u64 = USAGE_FORM * INPUT + RELATIVE_SOURCES + ADDRESSES + SIZES;
 
 const VS_3_0: u64 = SAMPLER_FORM * SAMPLER
     + USAGE_FORM * (INPUT + OUTPUT)
@@ -76,12 +89,14 @@ const VS_3_0: u64 = SAMPLER_FORM * SAMPLER
     + RELATIVE_SOURCES
     + RELATIVE_DESTINATIONS
     + ADDRESSES
+    + SIZES
     + RANK;
 
 const PS_2_0: u64 = SAMPLER_FORM * SAMPLER
     + PLAIN_FORM * (INPUT + TEXTURE)
     + PIXEL
     + ADDRESSES
+    + SIZES
     + 2 * RANK;
 
 const PS_3_0: u64 = SAMPLER_FORM * SAMPLER
@@ -91,7 +106,18 @@ const PS_3_0: u64 = SAMPLER_FORM * SAMPLER
     + PREDICATES
     + RELATIVE_SOURCES
     + FACE
+    + SIZES
     + 3 * RANK;
+
+const VS_1_1: u64 = USAGE_FORM * INPUT + MARKED_SOURCES + 8 * RANK;
+
+const PS_1_1: u64 = PIXEL + SHIFT_SCALES + 4 * RANK;
+
+const PS_1_2: u64 = PIXEL + SHIFT_SCALES + 5 * RANK;
+
+const PS_1_3: u64 = PIXEL + SHIFT_SCALES + 6 * RANK;
+
+const PS_1_4: u64 = PIXEL + SHIFT_SCALES + FURTHER_MODIFIERS + 7 * RANK;
 
 fn row_of(version: Version) -> u64
     ensures { λ r. ⌜ r ≡ rowNumber version ⌝ }
@@ -101,6 +127,11 @@ fn row_of(version: Version) -> u64
         Version::V3 => VS_3_0,
         Version::P2 => PS_2_0,
         Version::P3 => PS_3_0,
+        Version::V1 => VS_1_1,
+        Version::P11 => PS_1_1,
+        Version::P12 => PS_1_2,
+        Version::P13 => PS_1_3,
+        Version::P14 => PS_1_4,
     }
 }
 
@@ -121,6 +152,34 @@ pub fn has_predicates(version: Version) -> bool
     ensures { λ r. ⌜ r ≡ hasPredicates version ⌝ }
 {
     told_of(version) / PREDICATES % 2 == 1
+}
+
+// Whether instructions state their size.
+pub fn has_sizes(version: Version) -> bool
+    ensures { λ r. ⌜ r ≡ hasSizes version ⌝ }
+{
+    told_of(version) / SIZES % 2 == 1
+}
+
+// Whether bits 27:24 of a destination are free.
+pub fn has_shift_scale(version: Version) -> bool
+    ensures { λ r. ⌜ r ≡ hasShiftScale version ⌝ }
+{
+    told_of(version) / SHIFT_SCALES % 2 == 1
+}
+
+// Whether sources have the modifiers 7 to A.
+pub fn has_further(version: Version) -> bool
+    ensures { λ r. ⌜ r ≡ hasFurther version ⌝ }
+{
+    told_of(version) / FURTHER_MODIFIERS % 2 == 1
+}
+
+// Whether a source's bit 13 may be one and brings no token.
+pub fn marked_sources(version: Version) -> bool
+    ensures { λ r. ⌜ r ≡ markedSources version ⌝ }
+{
+    told_of(version) / MARKED_SOURCES % 2 == 1
 }
 
 pub fn relative_sources(version: Version) -> bool

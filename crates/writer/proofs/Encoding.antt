@@ -37,7 +37,7 @@ module _ (v : Version) (r : Record) (n : ℕ) where
         stands = λ some body long. comment-tokens v r is body;
       }
 
-  some-by : (isEnd : Bool) → 1 ≤ length (pick isEnd (endToken ∷ []) (encodedBy r (rowOf v r)))
+  some-by : (isEnd : Bool) → 1 ≤ length (pick isEnd (endToken ∷ []) (encodedBy v r (rowOf v r)))
   some-by true = omega arith
   some-by false = omega arith
 

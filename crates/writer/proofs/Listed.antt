@@ -13,8 +13,8 @@ use Rattle.paper.specs.declared.Version.{Version}
 use Rattle.paper.proofs.FirstToken.{Other}
 use Rattle.places.specs.Places.{digits, predicatedRow, decoded}
 use Rattle.places.proofs.Decoding.{arePlaces, decoded-zero, without-predicate, predicated-back}
-use Rattle.opcodes.specs.Shape.{shapeOf}
-use Rattle.opcodes.proofs.Shapes.{shape-absent, shape-places, few, are-places, decoded-digits, decoded-predicated}
+use Rattle.shapes.specs.Shape.{shapeOf}
+use Rattle.shapes.proofs.Shapes.{shape-absent, shape-places, few, are-places, decoded-digits, decoded-predicated}
 use Rattle.instruction_token.specs.ByShape.{placesBy}
 use Rattle.instruction_token.proofs.ByShape.{may-be}
 use Rattle.records.specs.declared.Operand.{Operand}
@@ -55,7 +55,7 @@ module _ (v : Version) (r : Record) where
   unfolding encodedTokens
   end-encoded e = rw (eq-eqb (r .opcode) endOpcode e)
 
-  pub other-encoded : (r .opcode ≡ endOpcode → ⊥) → encodedTokens v r ≡ encodedBy r (rowOf v r)
+  pub other-encoded : (r .opcode ≡ endOpcode → ⊥) → encodedTokens v r ≡ encodedBy v r (rowOf v r)
   unfolding encodedTokens
   other-encoded n = rw (ne-eqb (r .opcode) endOpcode n)
 

@@ -1,6 +1,6 @@
 -- The tokens of a row of operands, place by place.
 use mathlib.Core.Path.{_≡_}
-use mathlib.Core.Bool.{Bool, true, false}
+use mathlib.Core.Bool.{Bool, true, false, _&&_}
 use mathlib.Core.List.{List, [], _∷_, _++_}
 use Prim.Native.Nat.{ℕ, suc, _+_, _/_, _%_, _^_, _≤_, _<_}
 use native.Mathlib.Nat.{add-zero}
@@ -8,9 +8,9 @@ use native.Mathlib.Omega.{arith}
 use lib.Dec.{eqb}
 use lib.ListN.{length, drop, getD}
 use lib.Seq.{drop-drop, getD-drop}
-use borrow.Author.Tests.{eq-eqb, ne-eqb}
 use Rattle.paper.specs.Notation.{pick}
 use Rattle.paper.specs.Places.{Place, isRaw, isPredicate}
+use Rattle.paper.specs.OperandTokens.{isFree}
 use Rattle.places.specs.Places.{placeBy, decoded}
 use Rattle.places.proofs.Decoding.{decoded-zero, decoded-step}
 use Rattle.records.specs.declared.Operand.{Operand}
@@ -23,20 +23,20 @@ module _ (place : Place) (operand : Operand) where
   unfolding operandTokens
   raw-operand e = rw e
 
-  pub two-operand : isRaw place ≡ false → operand .relative ≡ 1 → operandTokens place operand ≡
+  pub two-operand : isRaw place ≡ false → (isFree place && eqb (operand .relative) 1) ≡ true → operandTokens place operand ≡
       tokenOf (operand .number) (operand .kind) (operand .relative) (middleOf operand)
       ∷ (tokenOf (operand .«relative_number») (operand .«relative_kind») 0 (operand .«relative_swizzle») ∷ [])
   unfolding operandTokens operandToken relativeTokenOf
-  two-operand n e = rw (n, eq-eqb (operand .relative) 1 e)
+  two-operand n e = rw (n, e)
 
-  pub one-operand : isRaw place ≡ false → (operand .relative ≡ 1 → ⊥) → operandTokens place operand ≡
+  pub one-operand : isRaw place ≡ false → (isFree place && eqb (operand .relative) 1) ≡ false → operandTokens place operand ≡
       tokenOf (operand .number) (operand .kind) (operand .relative) (middleOf operand) ∷ []
   unfolding operandTokens operandToken
-  one-operand n e = rw (n, ne-eqb (operand .relative) 1 e)
+  one-operand n e = rw (n, e)
 
   pub operand-few : length (operandTokens place operand) ≤ 2
   unfolding operandTokens
-  operand-few = by (isRaw place) (eqb (operand .relative) 1)
+  operand-few = by (isRaw place) (isFree place && eqb (operand .relative) 1)
     where
       by : (unread brings : Bool) → length (pick unread (operand .raw ∷ []) (operandToken operand ∷ pick brings (relativeTokenOf operand ∷ []) [])) ≤ 2
       by true brings = omega arith

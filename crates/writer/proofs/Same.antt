@@ -40,8 +40,8 @@ numbers-own m [] = eq-eqb m m refl
 numbers-own m (k ∷ rest) = rw (eq-eqb m m refl) (numbers-own k rest)
 
 -- make an equal operand, and an equal record
-unfoldable operand-of : ℕ → ℕ → ℕ → ℕ → ℕ → ℕ → ℕ → ℕ → ℕ → ℕ → ℕ → Operand
-operand-of number kind mask swizzle modifier result relative number2 kind2 swizzle2 raw =
+unfoldable operand-of : ℕ → ℕ → ℕ → ℕ → ℕ → ℕ → ℕ → ℕ → ℕ → ℕ → ℕ → ℕ → Operand
+operand-of number kind mask swizzle modifier result shift relative number2 kind2 swizzle2 raw =
     record {
       number = number;
       kind = kind;
@@ -49,6 +49,7 @@ operand-of number kind mask swizzle modifier result relative number2 kind2 swizz
       swizzle = swizzle;
       modifier = modifier;
       result = result;
+      shift = shift;
       relative = relative;
       «relative_number» = number2;
       «relative_kind» = kind2;
@@ -56,22 +57,23 @@ operand-of number kind mask swizzle modifier result relative number2 kind2 swizz
       raw = raw;
     }
 
-operand-same : (a a' b b' c c' d d' e e' f f' g g' h h' i i' j j' k k' : ℕ) →
-    _≡_ {A = List ℕ} (a ∷ (b ∷ (c ∷ (d ∷ (e ∷ (f ∷ (g ∷ (h ∷ (i ∷ (j ∷ (k ∷ []))))))))))) (a' ∷ (b' ∷ (c' ∷ (d' ∷ (e' ∷ (f' ∷ (g' ∷ (h' ∷ (i' ∷ (j' ∷ (k' ∷ []))))))))))) →
-    operand-of a b c d e f g h i j k ≡ operand-of a' b' c' d' e' f' g' h' i' j' k'
-operand-same a a' b b' c c' d d' e e' f f' g g' h h' i i' j j' k k' z = cc
+operand-same : (a a' b b' c c' d d' e e' f f' g g' h h' i i' j j' k k' l l' : ℕ) →
+    _≡_ {A = List ℕ} (a ∷ (b ∷ (c ∷ (d ∷ (e ∷ (f ∷ (g ∷ (h ∷ (i ∷ (j ∷ (k ∷ (l ∷ [])))))))))))) (a' ∷ (b' ∷ (c' ∷ (d' ∷ (e' ∷ (f' ∷ (g' ∷ (h' ∷ (i' ∷ (j' ∷ (k' ∷ (l' ∷ [])))))))))))) →
+    operand-of a b c d e f g h i j k l ≡ operand-of a' b' c' d' e' f' g' h' i' j' k' l'
+operand-same a a' b b' c c' d d' e e' f f' g g' h h' i i' j j' k k' l l' z = cc
 
 operand-equal : (a b : Operand) → sameOperand a b ≡ true → a ≡ b
 unfolding operand-of
-operand-equal a b h = operand-same _ _ _ _ _ _ _ _ _ _ _ _ _ _ _ _ _ _ _ _ _ _ (numbers-equal (a .number) (operandNumbers a) (b .number) (operandNumbers b) h)
+operand-equal a b h = operand-same _ _ _ _ _ _ _ _ _ _ _ _ _ _ _ _ _ _ _ _ _ _ _ _ (numbers-equal (a .number) (operandNumbers a) (b .number) (operandNumbers b) h)
 
-unfoldable record-of : ℕ → ℕ → ℕ → ℕ → List Operand → Record
-record-of opcode controls predicated size operands =
-    record { opcode = opcode; controls = controls; predicated = predicated; extent = size; operands = operands }
+unfoldable record-of : ℕ → ℕ → ℕ → ℕ → ℕ → List Operand → Record
+record-of opcode controls predicated coissue size operands =
+    record { opcode = opcode; controls = controls; predicated = predicated; coissue = coissue; extent = size; operands = operands }
 
-record-same : (a a' b b' c c' d d' : ℕ) (e e' : List Operand) → _≡_ {A = List ℕ} (a ∷ (b ∷ (c ∷ (d ∷ [])))) (a' ∷ (b' ∷ (c' ∷ (d' ∷ [])))) → e ≡ e' →
-    record-of a b c d e ≡ record-of a' b' c' d' e'
-record-same a a' b b' c c' d d' e e' z t = cc
+record-same : (a a' b b' c c' d d' e e' : ℕ) (f f' : List Operand) →
+    _≡_ {A = List ℕ} (a ∷ (b ∷ (c ∷ (d ∷ (e ∷ []))))) (a' ∷ (b' ∷ (c' ∷ (d' ∷ (e' ∷ []))))) → f ≡ f' →
+    record-of a b c d e f ≡ record-of a' b' c' d' e' f'
+record-same a a' b b' c c' d d' e e' f f' z t = cc
 
 operands-equal : (a b : List Operand) → sameOperands a b ≡ true → a ≡ b
 unfolding sameOperands
@@ -86,7 +88,7 @@ operands-equal (x ∷ a) (y ∷ b) h =
 pub record-equal : (a b : Record) → sameRecord a b ≡ true → a ≡ b
 unfolding sameRecord record-of
 record-equal a b h =
-    record-same _ _ _ _ _ _ _ _ _ _
+    record-same _ _ _ _ _ _ _ _ _ _ _ _
     (numbers-equal (a .opcode) (recordNumbers a) (b .opcode) (recordNumbers b) (both-left (sameFields a b) (sameOperands (a .operands) (b .operands)) h))
     (operands-equal (a .operands) (b .operands) (both-right (sameFields a b) (sameOperands (a .operands) (b .operands)) h))
 

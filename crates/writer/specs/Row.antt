@@ -10,7 +10,7 @@ use Rattle.paper.specs.InstructionToken.{endOpcode, endToken}
 use Rattle.paper.specs.Places.{Place}
 use Rattle.paper.specs.declared.Version.{Version}
 use Rattle.places.specs.Places.{decoded}
-use Rattle.opcodes.specs.Shape.{shapeOf}
+use Rattle.shapes.specs.Shape.{shapeOf}
 use Rattle.instruction_token.specs.ByShape.{placesBy}
 use Rattle.records.specs.declared.Record.{Record}
 use Rattle.records.specs.Record.{operandCount}
@@ -27,8 +27,8 @@ rowNumber shape marked = placesBy shape (pick marked (2 ^ 28) 0)
 abbrev pub rowOf : Version → Record → List Place
 rowOf v r = decoded (rowNumber (shapeOf v (r .opcode)) (eqb (r .predicated) 1))
 
-abbrev pub encodedBy : Record → List Place → List ℕ
-encodedBy r places = instructionToken r (length (tokensBehind r places)) ∷ tokensBehind r places
+abbrev pub encodedBy : Version → Record → List Place → List ℕ
+encodedBy v r places = instructionToken v r (length (tokensBehind r places)) ∷ tokensBehind r places
 
 unfoldable pub encodedTokens : Version → Record → List ℕ
-encodedTokens v r = pick (eqb (r .opcode) endOpcode) (endToken ∷ []) (encodedBy r (rowOf v r))
+encodedTokens v r = pick (eqb (r .opcode) endOpcode) (endToken ∷ []) (encodedBy v r (rowOf v r))

@@ -20,11 +20,12 @@ operandNumbers a =
     ∷ (a .swizzle
     ∷ (a .modifier
     ∷ (a .result
+    ∷ (a .shift
     ∷ (a .relative
     ∷ (a .«relative_number»
     ∷ (a .«relative_kind»
     ∷ (a .«relative_swizzle»
-    ∷ (a .raw ∷ [])))))))))
+    ∷ (a .raw ∷ []))))))))))
 
 abbrev pub sameOperand : Operand → Operand → Bool
 sameOperand a b = sameNumbers (a .number) (operandNumbers a) (b .number) (operandNumbers b)
@@ -36,7 +37,7 @@ sameOperands (a ∷ rest) [] = false
 sameOperands (a ∷ rest) (b ∷ others) = sameOperand a b && sameOperands rest others
 
 abbrev pub recordNumbers : Record → List ℕ
-recordNumbers a = a .controls ∷ (a .predicated ∷ (a .extent ∷ []))
+recordNumbers a = a .controls ∷ (a .predicated ∷ (a .coissue ∷ (a .extent ∷ [])))
 
 abbrev pub sameFields : Record → Record → Bool
 sameFields a b = sameNumbers (a .opcode) (recordNumbers a) (b .opcode) (recordNumbers b)

@@ -49,18 +49,21 @@ fn same_operand(a: Operand, b: Operand) -> bool
                 & ((a.swizzle == b.swizzle)
                     & ((a.modifier == b.modifier)
                         & ((a.result == b.result)
-                            & ((a.relative == b.relative)
-                                & ((a.relative_number == b.relative_number)
-                                    & ((a.relative_kind == b.relative_kind)
-                                        & ((a.relative_swizzle == b.relative_swizzle)
-                                            & (a.raw == b.raw))))))))))
+                            & ((a.shift == b.shift)
+                                & ((a.relative == b.relative)
+                                    & ((a.relative_number == b.relative_number)
+                                        & ((a.relative_kind == b.relative_kind)
+                                            & ((a.relative_swizzle == b.relative_swizzle)
+                                                & (a.raw == b.raw)))))))))))
 }
 
 fn same_fields(a: Record, b: Record) -> bool
     ensures { λ r. ⌜ r ≡ sameFields a b ⌝ }
 {
     (a.opcode == b.opcode)
-        & ((a.controls == b.controls) & ((a.predicated == b.predicated) & (a.extent == b.extent)))
+        & ((a.controls == b.controls)
+            & ((a.predicated == b.predicated)
+                & ((a.coissue == b.coissue) & (a.extent == b.extent))))
 }
 
 fn same_record(a: Record, b: Record) -> bool
@@ -105,7 +108,7 @@ fn operand_token(operand: Operand) -> u32
 {
     let middle = operand.mask as u64
         + operand.swizzle as u64
-        + (0x10 * operand.result as u64 + 0x100 * operand.modifier as u64);
+        + (0x10 * operand.result as u64 + 0x100 * (operand.modifier as u64 + operand.shift as u64));
     token_of(operand.number, operand.kind, operand.relative, middle)
 }
 
@@ -120,13 +123,14 @@ fn relative_token(operand: Operand) -> u32
     )
 }
 
-fn first_token(opcode: u32, controls: u32, size: usize, predicated: u32) -> u32
+fn first_token(opcode: u32, controls: u32, size: usize, predicated: u32, coissue: u32) -> u32
     requires { ⌜ size < 2 ^ 4 ⌝ }
-    ensures { λ r. ⌜ r ≡ word (headToken opcode controls size predicated) ⌝ }
+    ensures { λ r. ⌜ r ≡ word (headToken opcode controls size predicated coissue) ⌝ }
 {
     let token = opcode as u64
         + (0x1_0000 * controls as u64
-            + (0x100_0000 * size as u64 + 0x1000_0000 * predicated as u64));
+            + (0x100_0000 * size as u64
+                + (0x1000_0000 * predicated as u64 + 0x4000_0000 * coissue as u64)));
     (token % 0x1_0000_0000) as u32
 }
 
@@ -137,7 +141,8 @@ fn put_token(room: &mut [u32], token: u32)
     room[0] = token;
 }
 
-// An operand at the front of the room: its token, and its relative token in the remainder, which is lent on. How many tokens it takes.
+// An operand at the front of the room: its token, and at a free place its relative token in the remainder, which is lent on. How many tokens
+// it takes.
 fn put_operand(room: &mut [u32], place: u64, operand: Operand) -> usize
     requires { ⌜ 2 ≤ length (now room) ⌝ }
     ensures { λ taken. ⌜ Put (operandTokens (placeBy place) operand) (now (room .entry)) 0 taken (now (room .exit)) ⌝ }
@@ -147,7 +152,8 @@ fn put_operand(room: &mut [u32], place: u64, operand: Operand) -> usize
         return 1;
     }
     room[0] = operand_token(operand);
-    if operand.relative == 1 {
+    let free = places::is_free(place);
+    if free & (operand.relative == 1) {
         put_token(&mut room[1..], relative_token(operand));
         return 2;
     }
@@ -205,11 +211,13 @@ fn put_record(room: &mut [u32], version: Version, instruction: Record) -> usize
     let row = row_of(shape, instruction.predicated == 1);
     let operands = instruction.operands;
     let size = put_row(&mut room[1..], row, operands);
+    let stated = choose(versions::has_sizes(version), size, 0);
     room[0] = first_token(
         instruction.opcode,
         instruction.controls,
-        size,
+        stated,
         instruction.predicated,
+        instruction.coissue,
     );
     1 + size
 }
@@ -239,6 +247,7 @@ fn is_comment(instruction: Record) -> bool
         opcode: paper::COMMENT,
         controls: 0,
         predicated: 0,
+        coissue: 0,
         extent: instruction.extent,
         operands,
     };

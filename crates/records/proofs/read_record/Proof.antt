@@ -2,7 +2,7 @@ use mathlib.Core.Path.{_≡_, ap, _∙_}
 use borrow.Author.Needs.{needs}
 use borrow.Author.Tests.{eq-eqb, ne-eqb}
 use Rattle.paper.specs.InstructionToken.{opcodeOf}
-use Rattle.opcodes.specs.Shape.{shapeOf}
+use Rattle.shapes.specs.Shape.{shapeOf}
 use Rattle.instruction_token.specs.ByShape.{placesBy}
 use Rattle.records.proofs.read_record.Statement.{statement}
 use Rattle.records.proofs.read_record.Tie as tie

@@ -1,5 +1,6 @@
 use mathlib.Core.Path.{sym, _∙_}
 use Rattle.paper.specs.OperandTokens.{tokenAt}
+use Rattle.paper.specs.Places.{free}
 use Rattle.tokens.proofs.TokenAt.{plain-destination-laid}
 use Rattle.versions.proofs.Types.{destination-types}
 use borrow.Author.Needs.{needs}
@@ -8,7 +9,7 @@ use Rattle.tokens.proofs.judge_destination.Tie as tie
 
 returns : tie.Need-returns
 unfolding tokenAt
-returns c = rw (c .told-by-type .ensures, c .before .free-destination-types .ensures, destination-types _ _, plain-destination-laid _ _ (sym (c .before .before .before .plain-destination .ensures) ∙ c .before .before .if1 .taken))
+returns c = rw (c .told-by-type .ensures, c .before .free-destination-types .ensures, destination-types _ _, plain-destination-laid _ free _ (sym (c .before .before .before .plain-destination .ensures) ∙ c .before .before .if1 .taken))
 
 returns-2 : tie.Need-returns-2
 unfolding tokenAt

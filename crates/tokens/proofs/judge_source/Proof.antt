@@ -1,5 +1,6 @@
 use mathlib.Core.Path.{sym, _∙_}
 use Rattle.paper.specs.OperandTokens.{tokenAt}
+use Rattle.paper.specs.Places.{free}
 use Rattle.tokens.proofs.TokenAt.{plain-source-laid}
 use Rattle.versions.proofs.Types.{source-types}
 use borrow.Author.Needs.{needs}
@@ -8,7 +9,7 @@ use Rattle.tokens.proofs.judge_source.Tie as tie
 
 returns : tie.Need-returns
 unfolding tokenAt
-returns c = rw (c .told-by-type .ensures, c .before .free-source-types .ensures, source-types _ _, plain-source-laid _ _ (sym (c .before .before .before .plain-source .ensures) ∙ c .before .before .if1 .taken))
+returns c = rw (c .told-by-type .ensures, c .before .free-source-types .ensures, source-types _ _, plain-source-laid _ free _ (sym (c .before .before .before .plain-source .ensures) ∙ c .before .before .if1 .taken))
 
 returns-2 : tie.Need-returns-2
 unfolding tokenAt

@@ -16,15 +16,19 @@ returns c =
 
 returns-2 : tie.Need-returns-2
 returns-2 c =
-    let g = c .before .before .before .before .before .before .before .before .before .before .before .args in
-    let tokens = two-operand (placeBy (g .place)) (g .operand) (sym (c .before .before .before .before .before .before .before .before .before .is-raw .ensures) ∙ c .before .before .before .before .before .before .before .before .if1 .left) (c .before .before .before .before .before .if2 .taken) in
-    put-two (g .room .now) _ _ _ _ _ _ (omega arith) tokens (c .before .before .before .before .before .before .before .operand-token .ensures) (c .before .before .before .relative-token .ensures) (c .before .before .put-token .ensures)
+    let g = c .before .before .before .before .before .before .before .before .before .before .before .before .args in
+    let tokens =
+    two-operand (placeBy (g .place)) (g .operand) (sym (c .before .before .before .before .before .before .before .before .before .before .is-raw .ensures) ∙ c .before .before .before .before .before .before .before .before .before .if1 .left)
+    (rw (c .before .before .before .before .before .before .before .is-free .ensures) at (c .before .before .before .before .before .if2 .taken)) in
+    put-two (g .room .now) _ _ _ _ _ _ (omega arith) tokens (c .before .before .before .before .before .before .before .before .operand-token .ensures) (c .before .before .before .relative-token .ensures) (c .before .before .put-token .ensures)
 
 returns-3 : tie.Need-returns-3
 returns-3 c =
-    let g = c .before .before .before .before .before .before .args in
-    let tokens = one-operand (placeBy (g .place)) (g .operand) (sym (c .before .before .before .before .is-raw .ensures) ∙ c .before .before .before .if1 .left) (c .if2 .left) in
-    put-one (g .room .now) _ _ _ tokens (c .before .before .operand-token .ensures)
+    let g = c .before .before .before .before .before .before .before .args in
+    let tokens =
+    one-operand (placeBy (g .place)) (g .operand) (sym (c .before .before .before .before .before .is-raw .ensures) ∙ c .before .before .before .before .if1 .left)
+    (rw (c .before .before .is-free .ensures) at (c .if2 .left)) in
+    put-one (g .room .now) _ _ _ tokens (c .before .before .before .operand-token .ensures)
 
 pub put-operand-spec : {M : Type 1} → statement M
 put-operand-spec =
@@ -37,6 +41,7 @@ put-operand-spec =
     returns
     (λ c κs. search needs)
     (λ c. search needs)
+    (λ c κs. search needs)
     (λ c. simp length-set (omega arith))
     (λ c. simp length-set (omega arith))
     (λ c. search needs)

@@ -18,10 +18,10 @@ abbrev μ-loop : tie.MeasureT-loop
 μ-loop a b i₀ i = operandCount - i
 
 six1 : (c : tie.Start Inv-loop μ-loop) → length (c .args .t1 .operands) ≡ operandCount
-six1 c = simp length-map at (c .good .0 .1 .1 .1 .1 .1 .1 .0 .1 .0 .1)
+six1 c = simp length-map at (c .good .0 .1 .1 .1 .1 .1 .1 .1 .0 .1 .0 .1)
 
 six2 : (c : tie.Start Inv-loop μ-loop) → length (c .args .t2 .operands) ≡ operandCount
-six2 c = simp length-map at (c .good .1 .0 .1 .1 .1 .1 .1 .1 .0 .1 .0 .1)
+six2 c = simp length-map at (c .good .1 .0 .1 .1 .1 .1 .1 .1 .1 .0 .1 .0 .1)
 
 returns : tie.Need-returns Inv-loop μ-loop
 unfolding sameRecord

@@ -5,21 +5,11 @@ use mathlib.Core.Path.{_≡_, refl}
 use mathlib.Core.Bool.{Bool, true, false, not, _&&_, _||_}
 use mathlib.Core.List.{List, [], _∷_}
 use Rattle.paper.specs.OpcodeTable.{rows}
+use Rattle.paper.specs.FirstVersions.{firstRows}
 use Rattle.paper.specs.InstructionToken.{mayBePredicated}
-use Rattle.paper.specs.Places.{Entry, absent, listed, entryOf, typedPlaces, Place, raw, usage, declared, destination, source, condition, predicate, relative, isDestination}
+use Rattle.paper.specs.Places.{Entry, absent, listed, entryOf, typedPlaces, Place, isDestination, isSource}
 use Rattle.paper.specs.declared.Version.{Version}
-use Rattle.opcodes.proofs.Computed.{computed}
-use Rattle.opcodes.proofs.Table.{limit, beyond}
-
-abbrev isSource : Place → Bool
-isSource raw = false
-isSource usage = false
-isSource declared = false
-isSource (destination types) = false
-isSource (source types) = true
-isSource condition = true
-isSource predicate = false
-isSource relative = false
+use Rattle.shapes.proofs.Computed.{computed}
 
 abbrev areSources : List Place → Bool
 areSources [] = true
@@ -34,8 +24,8 @@ ordered v opcode absent = true
 ordered v opcode (listed places) = not (mayBePredicated v opcode places) || destinationFirst places
 
 entry-ordered : (v : Version) (opcode : ℕ) → ordered v opcode (entryOf v opcode) ≡ true
-unfolding rows entryOf typedPlaces
-entry-ordered = computed (λ v opcode. ordered v opcode (entryOf v opcode)) limit refl (λ v opcode h. rw (beyond v opcode h) refl)
+unfolding rows firstRows entryOf typedPlaces
+entry-ordered = computed (λ v opcode. ordered v opcode (entryOf v opcode)) refl refl (λ v opcode b e. rw e refl)
 
 pub destination-first : (v : Version) (opcode : ℕ) (places : List Place) →
     entryOf v opcode ≡ listed places → mayBePredicated v opcode places ≡ true → destinationFirst places ≡ true

@@ -9,7 +9,8 @@ use lib.ListN.{length}
 use borrow.Author.Tests.{leb-true, ltb-true}
 use Rattle.paper.specs.Notation.{pick, among}
 use Rattle.paper.specs.OpcodeTable.{rows, IFC, BREAKC, SETP, TEX}
-use Rattle.paper.specs.Versions.{hasPredicates}
+use Rattle.paper.specs.FirstVersions.{firstRows}
+use Rattle.paper.specs.Versions.{hasSizes, hasCoissue, hasPredicates}
 use Rattle.paper.specs.InstructionToken.{hasDestination, mayBePredicated, withPredicate}
 use Rattle.paper.specs.Blocks.{classOf}
 use Rattle.paper.specs.declared.Version.{Version}
@@ -18,13 +19,12 @@ use Rattle.paper.specs.declared.Opener.the-variants.{If, Loop, Rep}
 use Rattle.paper.specs.declared.Closer.the-variants.{Else, EndIf, EndLoop, EndRep, End}
 use Rattle.paper.specs.declared.Class.{Class}
 use Rattle.paper.specs.declared.Class.the-variants.{One, Opens, Closes}
-use Rattle.opcodes.specs.Classes.{classNumber}
-use Rattle.opcodes.specs.Shape.{controlsRule, shapeIn, shapeOf, placesField, predicableIn, ruleIn, classIn}
-use Rattle.places.specs.Places.{digits, predicatedRow, decoded}
+use Rattle.shapes.specs.Classes.{classNumber}
+use Rattle.shapes.specs.Shape.{sizeless, controlsRule, unstated, marked, shapeIn, shapeOf, placesField, predicableIn, ruleIn, coissueIn, unstatedIn, classIn}
+use Rattle.places.specs.Places.{typesBy, digits, predicatedRow, decoded}
 use Rattle.paper.proofs.Bools.{never, both-left, both-right}
 use Rattle.paper.specs.Places.{Entry, absent, listed, entryOf, Place, isPredicate, typedPlaces}
-use Rattle.opcodes.proofs.Computed.{computed}
-use Rattle.opcodes.proofs.Table.{limit, beyond}
+use Rattle.shapes.proofs.Computed.{computed}
 use Rattle.places.proofs.Decoding.{arePlaces, decoded-places, predicated-back}
 
 -- none of the places is the predicate's
@@ -41,22 +41,23 @@ entryFits absent = true
 entryFits (listed places) = fits places
 
 entry-fits : (v : Version) (opcode : ℕ) → entryFits (entryOf v opcode) ≡ true
-unfolding rows entryOf typedPlaces
-entry-fits = computed (λ v opcode. entryFits (entryOf v opcode)) limit refl (λ v opcode h. rw (beyond v opcode h) refl)
+unfolding rows firstRows entryOf typedPlaces typesBy
+entry-fits = computed (λ v opcode. entryFits (entryOf v opcode)) refl refl (λ v opcode b e. rw e refl)
 
-rule-small : (opcode : ℕ) → controlsRule opcode < 3
-rule-small opcode = by (among opcode (IFC ∷ BREAKC ∷ SETP ∷ [])) (eqb opcode TEX)
+rule-small : (v : Version) (opcode : ℕ) → controlsRule v opcode < 4
+rule-small v opcode = by (hasSizes v) (among opcode (IFC ∷ BREAKC ∷ SETP ∷ [])) (eqb opcode TEX)
   where
-    by : (a b : Bool) → pick a 1 (pick b 2 0) < 3
-    by true b = omega arith
-    by false true = omega arith
-    by false false = omega arith
+    by : (sized a b : Bool) → pick sized (pick a 1 (pick b 2 0)) sizeless < 4
+    by true true b = omega arith
+    by true false true = omega arith
+    by true false false = omega arith
+    by false a b = omega arith
 
-mark-small : (b : Bool) → pick b 1 0 < 2
+mark-small : (b : Bool) → marked b < 2
 mark-small true = omega arith
 mark-small false = omega arith
 
-mark-back : (b : Bool) → eqb (pick b 1 0) 1 ≡ b
+mark-back : (b : Bool) → eqb (marked b) 1 ≡ b
 mark-back true = refl
 mark-back false = refl
 
@@ -77,20 +78,28 @@ class-few (Closes EndRep) = lit< tt
 class-few (Closes End) = lit< tt
 
 -- the fields of a shape, over plain numbers
-abbrev packed : ℕ → ℕ → ℕ → ℕ → ℕ
-packed places mark rule class = places + (2 ^ 35 * mark + (2 ^ 36 * rule + (2 ^ 38 + 2 ^ 39 * class)))
+abbrev packed : ℕ → ℕ → ℕ → ℕ → ℕ → ℕ → ℕ
+packed places mark rule coissue claim class =
+    places + (2 ^ 35 * mark + (2 ^ 36 * rule + (2 ^ 38 + (2 ^ 39 * coissue + (2 ^ 40 * claim + 2 ^ 43 * class)))))
 
-module _ (places mark rule class : ℕ) (hp : places < 2 ^ 35) (hm : mark < 2) (hr : rule < 3) where
-  packed-places : placesField (packed places mark rule class) ≡ places
+module _ (places mark rule coissue claim class : ℕ)
+    (hp : places < 2 ^ 35) (hm : mark < 2) (hr : rule < 4) (hi : coissue < 2) (hc : claim < 8) where
+  packed-places : placesField (packed places mark rule coissue claim class) ≡ places
   packed-places = omega arith
 
-  packed-mark : packed places mark rule class / 2 ^ 35 % 2 ≡ mark
+  packed-mark : packed places mark rule coissue claim class / 2 ^ 35 % 2 ≡ mark
   packed-mark = omega arith
 
-  packed-rule : ruleIn (packed places mark rule class) ≡ rule
+  packed-rule : ruleIn (packed places mark rule coissue claim class) ≡ rule
   packed-rule = omega arith
 
-  packed-class : classIn (packed places mark rule class) ≡ class
+  packed-coissue : packed places mark rule coissue claim class / 2 ^ 39 % 2 ≡ coissue
+  packed-coissue = omega arith
+
+  packed-claim : unstatedIn (packed places mark rule coissue claim class) ≡ claim
+  packed-claim = omega arith
+
+  packed-class : classIn (packed places mark rule coissue claim class) ≡ class
   packed-class = omega arith
 
 -- the opcode has a shape exactly where the table lists it
@@ -129,21 +138,43 @@ module _ (v : Version) (opcode : ℕ) (places : List Place) (e : entryOf v opcod
   pub row-unpredicated : unpredicated places ≡ true
   row-unpredicated = both-right (arePlaces places) _ (both-right (ltb (digits places) (2 ^ 35)) _ places-fit)
 
-  mark-few : pick (mayBePredicated v opcode places) 1 0 < 2
-  mark-few = mark-small (mayBePredicated v opcode places)
+  claim-few : unstated v places < 8
+  claim-few = by (hasSizes v)
+    where
+      by : (sized : Bool) → pick sized 0 (length places) < 8
+      by true = omega arith
+      by false = omega (arith, few)
+
+  -- a field by its law, which wants all of them small
+  abbrev Field : (ℕ → Type 0) → Type 0
+  Field law =
+      digits places < 2 ^ 35 → marked (mayBePredicated v opcode places) < 2 → controlsRule v opcode < 4 → marked (hasCoissue v) < 2 →
+      unstated v places < 8 → law (shapeIn v opcode (listed places))
+
+  field : (law : ℕ → Type 0) → Field law → law (shapeOf v opcode)
+  field law read =
+      rw shape-listed
+      (read digits-small (mark-small (mayBePredicated v opcode places)) (rule-small v opcode) (mark-small (hasCoissue v)) claim-few)
 
   pub shape-places : placesField (shapeOf v opcode) ≡ digits places
-  shape-places = rw shape-listed (packed-places _ _ _ _ digits-small mark-few (rule-small opcode))
+  shape-places = field (λ shape. placesField shape ≡ digits places) (packed-places _ _ _ _ _ _)
 
   pub shape-predicable : predicableIn (shapeOf v opcode) ≡ mayBePredicated v opcode places
   shape-predicable =
-      rw (shape-listed, packed-mark _ _ _ _ digits-small mark-few (rule-small opcode)) (mark-back (mayBePredicated v opcode places))
+      rw (field (λ shape. shape / 2 ^ 35 % 2 ≡ marked (mayBePredicated v opcode places)) (packed-mark _ _ _ _ _ _))
+      (mark-back (mayBePredicated v opcode places))
 
-  pub shape-rule : ruleIn (shapeOf v opcode) ≡ controlsRule opcode
-  shape-rule = rw shape-listed (packed-rule _ _ _ _ digits-small mark-few (rule-small opcode))
+  pub shape-rule : ruleIn (shapeOf v opcode) ≡ controlsRule v opcode
+  shape-rule = field (λ shape. ruleIn shape ≡ controlsRule v opcode) (packed-rule _ _ _ _ _ _)
+
+  pub shape-coissue : coissueIn (shapeOf v opcode) ≡ hasCoissue v
+  shape-coissue = rw (field (λ shape. shape / 2 ^ 39 % 2 ≡ marked (hasCoissue v)) (packed-coissue _ _ _ _ _ _)) (mark-back (hasCoissue v))
+
+  pub shape-claim : unstatedIn (shapeOf v opcode) ≡ unstated v places
+  shape-claim = field (λ shape. unstatedIn shape ≡ unstated v places) (packed-claim _ _ _ _ _ _)
 
   pub shape-class : classIn (shapeOf v opcode) ≡ classNumber (classOf opcode)
-  shape-class = rw shape-listed (packed-class _ _ _ _ digits-small mark-few (rule-small opcode))
+  shape-class = field (λ shape. classIn shape ≡ classNumber (classOf opcode)) (packed-class _ _ _ _ _ _)
 
   pub decoded-digits : decoded (digits places) ≡ places
   decoded-digits = decoded-places places are-places (omega (arith, few))
