@@ -35,14 +35,14 @@ fn controls_laid(rule: u64, controls: u32) -> bool
 }
 
 // Neither a reserved bit, nor a predicate, nor controls.
-fn has_zeros(token: u32) -> bool
+pub fn has_zeros(token: u32) -> bool
     ensures { λ r. ⌜ r ≡ hasZeros token ⌝ }
 {
     (token / 0x1000_0000 == 0) & (token / 0x1_0000 % 0x100 == 0)
 }
 
 // Bits 31 to 16 where no size is stated: nothing but co-issue.
-fn unsized_laid(coissued: bool, token: u32) -> bool
+pub fn unsized_laid(coissued: bool, token: u32) -> bool
     ensures { λ r. ⌜ r ≡ unsizedBy coissued token ⌝ }
 {
     (token / 0x1_0000 % 0x4000 == 0)

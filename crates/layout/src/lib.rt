@@ -6,7 +6,7 @@ ghost use Rattle.paper.specs.Notation.{bits, bit};
 ghost use Rattle.paper.specs.Versions.{isPixel};
 ghost use Rattle.paper.specs.Numbers.{toldToken};
 ghost use Rattle.paper.specs.Places.{freeDestination, freeSource, declared, condition, predicate, relative};
-ghost use Rattle.paper.specs.OperandTokens.{typeOf, modifierOf, bothLaid, hasShiftScale, sourceModifier, laid, layoutThenType};
+ghost use Rattle.paper.specs.OperandTokens.{typeOf, modifierOf, bothLaid, relativeSources, markedSources, hasShiftScale, sourceModifier, laid, layoutThenType};
 use paper::Version;
 
 // Sets of modifiers: each raises its own bit.
@@ -130,6 +130,21 @@ pub fn typed_source_laid(version: Version, token: u32) -> bool
             return true;
         }
         return versions::marked_sources(version);
+    }
+    false
+}
+
+// A source at a place that is free exactly if sizes are stated: bit 13 is zero, or the version's sources may have it.
+pub fn any_source_laid(version: Version, token: u32) -> bool
+    ensures { λ r. ⌜ r ≡ ((bothLaid token && sourceModifier version (modifierOf token) (typeOf token)) && (eqb (bit 13 token) 0 || (relativeSources version || markedSources version))) ⌝ }
+{
+    if read_laid(version, token) {
+        if token / 0x2000 % 2 == 0 {
+            return true;
+        }
+        let relative = versions::relative_sources(version);
+        let marked = versions::marked_sources(version);
+        return relative | marked;
     }
     false
 }

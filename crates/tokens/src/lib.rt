@@ -10,6 +10,7 @@ ghost use Rattle.paper.specs.Numbers.{toldToken};
 ghost use Rattle.paper.specs.Places.{freeDestination, freeSource, relative, isRaw, isDestination};
 ghost use Rattle.tokens.specs.Plain.{plainSource, plainDestination};
 ghost use Rattle.tokens.specs.Tabled.{isTabled, typesAt};
+ghost use Rattle.tokens.specs.Good.{goodWritten, goodRead};
 use paper::Version;
 
 // A set of register types: each raises its own bit.
@@ -142,7 +143,7 @@ fn told_by_type(set: u32, token: u32) -> u32
 }
 
 // Most sources: no modifier or negation, not relative.
-fn plain_source(token: u32) -> bool
+pub fn plain_source(token: u32) -> bool
     ensures { λ r. ⌜ r ≡ plainSource token ⌝ }
 {
     (token / 0x4000 % 4 == 0)
@@ -169,6 +170,29 @@ fn plain_at(place: u64, token: u32) -> bool
         return plain_destination(token);
     }
     plain_source(token)
+}
+
+// Whether a token is good at a destination of a set of types, free exactly if sizes are stated.
+pub fn good_written(version: Version, types: u32, token: u32) -> bool
+    ensures { λ r. ⌜ r ≡ goodWritten version types token ⌝ }
+{
+    if plain_destination(token) {
+        return versions::type_in(types, token);
+    }
+    if layout::free_destination_laid(version, token) {
+        return versions::type_in(types, token);
+    }
+    false
+}
+
+// The same at a source.
+pub fn good_read(version: Version, types: u32, token: u32) -> bool
+    ensures { λ r. ⌜ r ≡ goodRead version types token ⌝ }
+{
+    if layout::any_source_laid(version, token) {
+        return versions::type_in(types, token);
+    }
+    false
 }
 
 // What is told of a token at a free source: 0 if it is good.

@@ -25,20 +25,20 @@ start a = at-loop a .before .before
 
 module _ (a : tie.After-is-plain Inv-loop μ-loop) where
   abbrev told : ℕ
-  told = a .before .judge-first .result
+  told = a .before .tell .result
 
   inside : a .is-plain .result ≡ true → nextAt (at-loop a .loop .at) told ≤ length (start a .args .tokens .now)
   inside p =
       let g = start a .args in
       let l = at-loop a .loop in
-      turn-inside (g .version) (g .tokens .now) (g .beyond) (g .stop) (g .from) (l .at) (l .count) told (l .inv .0) (a .before .before .before .before .loop-test .taken) (a .before .judge-first .ensures) (sym (a .is-plain .ensures) ∙ p)
+      turn-inside (g .version) (g .tokens .now) (g .beyond) (g .stop) (g .from) (l .at) (l .count) told (l .inv .0) (a .before .before .before .before .loop-test .taken) (a .before .tell .ensures) (sym (a .is-plain .ensures) ∙ p)
 
   on : a .is-plain .result ≡ true → nextAt (at-loop a .loop .at) told < start a .args .stop →
       PlainTo (start a .args .version) (start a .args .tokens .now) (start a .args .beyond) (start a .args .stop) (start a .args .from) (nextAt (at-loop a .loop .at) told) (at-loop a .loop .count + 1)
   on p =
       let g = start a .args in
       let l = at-loop a .loop in
-      turn-on (g .version) (g .tokens .now) (g .beyond) (g .stop) (g .from) (l .at) (l .count) told (l .inv .0) (a .before .before .before .before .loop-test .taken) (a .before .judge-first .ensures) (sym (a .is-plain .ensures) ∙ p)
+      turn-on (g .version) (g .tokens .now) (g .beyond) (g .stop) (g .from) (l .at) (l .count) told (l .inv .0) (a .before .before .before .before .loop-test .taken) (a .before .tell .ensures) (sym (a .is-plain .ensures) ∙ p)
 
 loop-holds : tie.Need-loop-holds Inv-loop μ-loop
 loop-holds c = (here, omega arith)
@@ -48,7 +48,7 @@ returns c =
     let a = c .before in
     let g = start a .args in
     let l = at-loop a .loop in
-    turn-last (g .version) (g .tokens .now) (g .beyond) (g .stop) (g .from) (l .at) (l .count) (told a) (l .inv .0) (a .before .before .before .before .loop-test .taken) (a .before .judge-first .ensures) (sym (a .is-plain .ensures) ∙ not-true _ (c .if1 .taken))
+    turn-last (g .version) (g .tokens .now) (g .beyond) (g .stop) (g .from) (l .at) (l .count) (told a) (l .inv .0) (a .before .before .before .before .loop-test .taken) (a .before .tell .ensures) (sym (a .is-plain .ensures) ∙ not-true _ (c .if1 .taken))
 
 add-next-2 : tie.Need-add-next-2 Inv-loop μ-loop
 add-next-2 c = omega (arith, c .size-of .ensures, inside (c .before .before) (not-false _ (c .before .if1 .left)))
@@ -58,7 +58,7 @@ returns-2 c =
     let a = c .before .before .before in
     let g = start a .args in
     let l = at-loop a .loop in
-    turn-stop (g .version) (g .tokens .now) (g .beyond) (g .stop) (g .from) (l .at) (l .count) (told a) (l .inv .0) (a .before .before .before .before .loop-test .taken) (a .before .judge-first .ensures) (sym (a .is-plain .ensures) ∙ not-false _ (c .before .before .if1 .left)) (rw (c .before .size-of .ensures) at (c .if2 .taken))
+    turn-stop (g .version) (g .tokens .now) (g .beyond) (g .stop) (g .from) (l .at) (l .count) (told a) (l .inv .0) (a .before .before .before .before .loop-test .taken) (a .before .tell .ensures) (sym (a .is-plain .ensures) ∙ not-false _ (c .before .before .if1 .left)) (rw (c .before .size-of .ensures) at (c .if2 .taken))
 
 add-count : tie.Need-add-count Inv-loop μ-loop
 add-count c = omega (arith, at-loop (c .before .before .before) .loop .inv .1, c .before .before .before .before .before .before .before .loop-test .taken)

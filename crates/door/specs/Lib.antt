@@ -1,0 +1,2 @@
+-- The door: what it passes.
+pub mod Door
