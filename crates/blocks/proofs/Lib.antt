@@ -1,6 +1,7 @@
 -- The theorems about blocks.
 pub mod Cutting
 pub mod Unfold
+pub mod Unphased
 pub mod Derived
 pub mod WalkIsGrammar
 pub mod Reach

@@ -29,6 +29,7 @@ use Rattle.blocks.specs.Descent
 use Rattle.blocks.specs.Descent.{refused, itemOf, blockOf}
 use Rattle.blocks.proofs.Cutting.{cut-none, cut-at}
 use Rattle.blocks.proofs.Unfold.{item-one, item-opens, item-closes}
+use Rattle.blocks.proofs.Unphased.{block-unphased}
 use Rattle.blocks.specs.Nesting.{countOf}
 use Rattle.told.specs.Numbered.{judgedFrom}
 use Rattle.stretches.specs.Stretch.{toldAt}
@@ -132,15 +133,18 @@ module _ (v : Version) {s : List ℕ} {depth at m told : ℕ} (begun : StartsAt 
             counted = rw (counted, g) (omega arith);
           }
 
-      block-begins : (inLoop phased : Bool) → ltb depth mostOpen ≡ true → blockOf depth inLoop phased o (cutFrom v s (at + 1 + size)) ≡ itemAt depth inLoop phased (cutFrom v s at)
-      block-begins inLoop phased h = sym (begins inLoop phased ∙ rw (g, item-opens depth inLoop phased o at (cutFrom v s (at + 1 + size)), h) refl)
+      -- a block is told of no PHASE
+      block-begins : (inLoop phased : Bool) → ltb depth mostOpen ≡ true → blockOf depth inLoop false o (cutFrom v s (at + 1 + size)) ≡ itemAt depth inLoop phased (cutFrom v s at)
+      block-begins inLoop phased h =
+          block-unphased depth inLoop false phased o (cutFrom v s (at + 1 + size))
+          ∙ sym (begins inLoop phased ∙ rw (g, item-opens depth inLoop phased o at (cutFrom v s (at + 1 + size)), h) refl)
 
-      opened : (inLoop phased : Bool) → ltb depth mostOpen ≡ true → (r : ItemEnd) → BlockIs v s depth inLoop phased (at + 1 + size) (m + 1) o r → ItemIs v s depth inLoop phased at m r
+      opened : (inLoop phased : Bool) → ltb depth mostOpen ≡ true → (r : ItemEnd) → BlockIs v s depth inLoop false (at + 1 + size) (m + 1) o r → ItemIs v s depth inLoop phased at m r
       opened inLoop phased h (Passed next n) k = record { is = k .is ∙ block-begins inLoop phased h; within = onward opens (k .within) }
       opened inLoop phased h (Closed c next) k = absurd (k .within)
       opened inLoop phased h (Refused r) k = record { is = k .is ∙ block-begins inLoop phased h; within = tt }
 
-      pub item-opened : {inLoop phased : Bool} → depth < mostOpen → {r : ItemEnd} → BlockIs v s depth inLoop phased (at + 1 + size) (m + 1) o r → ItemIs v s depth inLoop phased at m r
+      pub item-opened : {inLoop phased : Bool} → depth < mostOpen → {r : ItemEnd} → BlockIs v s depth inLoop false (at + 1 + size) (m + 1) o r → ItemIs v s depth inLoop phased at m r
       item-opened {inLoop} {phased} h {r} k = opened inLoop phased (lt-ltb depth mostOpen h) r k
 
       pub item-deep : {inLoop phased : Bool} → mostOpen ≤ depth → {r : ItemEnd} → r ≡ Refused (refusal DEPTH at) → ItemIs v s depth inLoop phased at m r

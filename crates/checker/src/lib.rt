@@ -1,5 +1,6 @@
 // The check of a stream, by descent: document 01, "Blocks". A body calls item, an item calls block, a block calls body.
 ghost use mathlib.Core.Path.{_≡_};
+ghost use mathlib.Core.Bool.{false};
 ghost use Prim.Native.Nat.{_+_, _≤_};
 ghost use lib.ListN.{length};
 ghost use Rattle.paper.specs.Numbers.{refusal, told};
@@ -136,7 +137,8 @@ fn close(end: BodyEnd, own: u32) -> ItemEnd
 }
 
 // A row of items, up to the closer behind it. A plain instruction may stand anywhere, so that a stretch of them is passed in one call.
-// Whether a PHASE has stood is known before the row and marked as it is passed; none stands in a block, so that no answer tells of it.
+// Whether a PHASE has stood is marked as the row is passed; none stands in a block, so that no body is told of one that stood before
+// it, and no answer tells of it.
 fn body(
     version: Version,
     tokens: &[u32],
@@ -144,14 +146,13 @@ fn body(
     count: usize,
     depth: usize,
     in_loop: bool,
-    phased: bool,
 ) -> BodyEnd
     requires { ⌜ StartsAt (now tokens) depth at count ⌝ }
-    ensures { λ r. ⌜ BodyIs version (now (tokens .entry)) depth in_loop phased at count r ⌝ }
+    ensures { λ r. ⌜ BodyIs version (now (tokens .entry)) depth in_loop false at count r ⌝ }
 {
     let mut place = at;
     let mut counted = count;
-    let mut marked = phased;
+    let mut marked = false;
     loop {
         let stretch = stretches::judge_stretch(version, tokens, place, tokens.len(), 0);
         let here = stretch.at;
@@ -209,16 +210,7 @@ fn item(
                 }
                 Class::Opens(opener) => {
                     if depth < MOST_OPEN {
-                        return block(
-                            version,
-                            tokens,
-                            next,
-                            count + 1,
-                            opener,
-                            depth,
-                            in_loop,
-                            phased,
-                        );
+                        return block(version, tokens, next, count + 1, opener, depth, in_loop);
                     }
                     refused_item(Reason::Depth, at)
                 }
@@ -241,10 +233,9 @@ fn block(
     opener: Opener,
     depth: usize,
     in_loop: bool,
-    phased: bool,
 ) -> ItemEnd
     requires { ⌜ StartsAt (now tokens) (depth + 1) at count ⌝ }
-    ensures { λ r. ⌜ BlockIs version (now (tokens .entry)) depth in_loop phased at count opener r ⌝ }
+    ensures { λ r. ⌜ BlockIs version (now (tokens .entry)) depth in_loop false at count opener r ⌝ }
 {
     let own = own_closer(opener);
     let first = body(
@@ -254,20 +245,11 @@ fn block(
         count,
         depth + 1,
         loops_in(opener, in_loop),
-        phased,
     );
     match first {
         BodyEnd::Stopped(closer, position, next, counted) => {
             if (own == END_IF) & (closer_number(closer) == ELSE) {
-                let second = body(
-                    version,
-                    tokens,
-                    next,
-                    counted + 1,
-                    depth + 1,
-                    in_loop,
-                    phased,
-                );
+                let second = body(version, tokens, next, counted + 1, depth + 1, in_loop);
                 return close(second, own);
             }
             close(first, own)
@@ -294,7 +276,7 @@ fn check_behind(version: Version, tokens: &[u32]) -> Verdict
     requires { ⌜ 1 ≤ length (now tokens) ⌝ }
     ensures { λ r. ⌜ r ≡ walked version (now (tokens .entry)) ⌝ }
 {
-    let whole = body(version, tokens, 1, 0, 0, false, false);
+    let whole = body(version, tokens, 1, 0, 0, false);
     match whole {
         BodyEnd::Stopped(closer, position, next, count) => finish(
             tokens,

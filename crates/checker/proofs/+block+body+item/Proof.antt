@@ -1,6 +1,7 @@
 use Prim.Native.Nat.{ℕ, _+_, _*_, _-_, _<_}
 use native.Mathlib.Omega.{arith}
 use mathlib.Core.Path.{refl}
+use mathlib.Core.Bool.{false}
 use borrow.Author.Needs.{needs}
 use lib.ListN.{length}
 use Rattle.paper.specs.Blocks.{mostOpen}
@@ -60,11 +61,11 @@ abbrev item-below : ℕ → In 1 item-kinds.ps
 item-below t = and 1 item-kinds.ps (falls 1 item-kinds.ps _<_ μ-item t) item.Pre
 
 abbrev body-Inv-loop : body-lts.InvT-loop
-body-Inv-loop version tokens at count depth in-loop phased place₀ counted₀ marked₀ place counted marked =
-    Reached version tokens depth in-loop phased at count place counted marked
+body-Inv-loop version tokens at count depth in-loop place₀ counted₀ marked₀ place counted marked =
+    Reached version tokens depth in-loop false at count place counted marked
 
 abbrev body-μ-loop : body-lts.MeasureT-loop
-body-μ-loop version tokens at count depth in-loop phased place₀ counted₀ marked₀ place counted marked = length tokens - place
+body-μ-loop version tokens at count depth in-loop place₀ counted₀ marked₀ place counted marked = length tokens - place
 
 pub +block+body+item-spec : {M : Type 1} → statement M
 +block+body+item-spec = close μ-block μ-body μ-item (λ t. block-lts.spec (
