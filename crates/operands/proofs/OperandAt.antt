@@ -21,9 +21,8 @@ use Rattle.paper.specs.declared.Token.the-variants.{Good, Bad}
 use Rattle.paper.specs.declared.Taken.{Taken}
 use Rattle.paper.specs.declared.Taken.the-variants.{Took, Refused}
 use Rattle.paper.specs.declared.Operands.the-variants.{Fit, Refused as Unfit}
-use Rattle.paper.specs.Places.{Place, raw, relative}
+use Rattle.paper.specs.Places.{Place, relative}
 use Rattle.places.specs.Places.{placeBy, placesIn, decoded}
-use Rattle.tokens.proofs.TokenAt.{raw-good}
 use Rattle.told.specs.Numbered.{faultNumber, tookNumber, takenNumber}
 use Rattle.operands.proofs.Numbers.{on-token-number, taken-pick}
 use Rattle.places.proofs.Decoding.{decoded-zero, decoded-step}
@@ -76,10 +75,6 @@ module _ (v : Version) (place : Place) (offset at told : ℕ) (behind : List ℕ
     pub typed-number : isFree place ≡ false →
         takenNumber (operand v place offset (drop at behind)) ≡ pick (eqb told 0) (tookNumber 1) (faultNumber told offset)
     typed-number not-free = rw not-free at operand-number
-
-  pub raw-number : place ≡ raw → takenNumber (operand v place offset (drop at behind)) ≡ tookNumber 1
-  raw-number r =
-      rw (operand-at v place offset at behind h, r, ← (raw-good v raw token refl)) refl
 
 -- an operand takes tokens that are there
 module _ (v : Version) (place : Place) (offset n : ℕ) where

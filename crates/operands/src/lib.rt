@@ -84,9 +84,6 @@ fn take_operand(version: Version, place: u64, behind: &[u32], at: usize) -> u64
             at,
         );
     }
-    if place == places::RAW {
-        return told::ONE_TAKEN;
-    }
     take_typed(tokens::judge_token(version, place, token), at)
 }
 

@@ -147,10 +147,6 @@ place-back predicate t = refl
 place-back relative t = refl
 
 -- the places with a name, by their numbers
-pub raw-place : placeBy 1 ≡ raw
-unfolding placeBy
-raw-place = refl
-
 pub usage-place : placeBy 2 ≡ usage
 unfolding placeBy
 usage-place = refl

@@ -1,9 +1,9 @@
-use mathlib.Core.Path.{refl, sym}
+use mathlib.Core.Path.{refl}
 use Prim.Native.Nat.{_+_}
 use Rattle.paper.specs.Places.{freeSource, freeDestination}
-use Rattle.operands.proofs.OperandAt.{operand-none, free-number, typed-number, raw-number}
+use Rattle.operands.proofs.OperandAt.{operand-none, free-number, typed-number}
 use Rattle.places.specs.Places.{placeBy}
-use Rattle.places.proofs.Places.{raw-place, free-destination-place, free-source-place}
+use Rattle.places.proofs.Places.{free-destination-place, free-source-place}
 use Rattle.places.proofs.PlaceKinds.{not-free}
 use borrow.Author.Needs.{needs}
 use Rattle.operands.proofs.take_operand.Statement.{statement}
@@ -26,13 +26,8 @@ returns-3 c =
 
 returns-4 : tie.Need-returns-4
 returns-4 c =
-    let g = c .before .before .before .before .before .before .args in
-    sym (raw-number (g .version) (placeBy (g .place)) (g .at + 1) (g .at) 0 (g .behind .now) (c .before .before .before .before .if1 .left) (rw (c .if4 .taken) raw-place))
-
-returns-5 : tie.Need-returns-5
-returns-5 c =
-    let g = c .before .before .before .before .before .before .before .before .args in
-    rw (typed-number (g .version) (placeBy (g .place)) (g .at + 1) (g .at) _ (g .behind .now) (c .before .before .before .before .before .before .if1 .left) (c .before .judge-token .ensures) (not-free (g .place) (c .before .before .before .before .if2 .left) (c .before .before .before .if3 .left))) (c .take-typed .ensures)
+    let g = c .before .before .before .before .before .before .before .args in
+    rw (typed-number (g .version) (placeBy (g .place)) (g .at + 1) (g .at) _ (g .behind .now) (c .before .before .before .before .before .if1 .left) (c .before .judge-token .ensures) (not-free (g .place) (c .before .before .before .if2 .left) (c .before .before .if3 .left))) (c .take-typed .ensures)
 
 pub take-operand-spec : {M : Type 1} → statement M
 take-operand-spec =
@@ -48,7 +43,6 @@ take-operand-spec =
     (λ c κs. search needs)
     (λ c κs. search needs)
     returns-3
-    returns-4
     (λ c κs. search needs)
     (λ c κs. search needs)
-    returns-5)
+    returns-4)
