@@ -1,5 +1,6 @@
 /*
- * A loader to start from: reads shader files, checks each, and hands only what was accepted to the device.
+ * A loader to start from: reads shader files, checks each, tells what a driver is known to read otherwise, and hands only
+ * what was accepted to the device.
  *
  *   cc -O2 -Iinclude examples/loader.c target/staticlib/libsantubeli.a -o loader
  *   ./loader FILE...
@@ -10,6 +11,22 @@
 
 /* One byte more than the longest shader has: a longer file is LENGTH, not a shader cut short. */
 static uint8_t bytes[4 * SANTUBELI_MOST_TOKENS + 1];
+
+static uint32_t tokens[SANTUBELI_MOST_TOKENS];
+
+/* The notes on an accepted shader. They are for the log: a yes stays a yes. */
+static void tell_notes(const char *name, size_t count)
+{
+    for (size_t k = 0; k < count; k++)
+        tokens[k] = bytes[4 * k] | (uint32_t)bytes[4 * k + 1] << 8 | (uint32_t)bytes[4 * k + 2] << 16 | (uint32_t)bytes[4 * k + 3] << 24;
+    for (size_t from = 1; from < count;) {
+        const struct santubeli_noted noted = santubeli_note(tokens[0], tokens, count, from);
+        if (noted.number != SANTUBELI_YES || noted.notes == 0)
+            break;
+        fprintf(stderr, "%s: note %u at token %zu\n", name, (unsigned)noted.notes, noted.at);
+        from = noted.next;
+    }
+}
 
 /* Where the device takes the tokens; here they are only counted. */
 static void hand_to_device(const uint8_t *shader, size_t length)
@@ -37,6 +54,7 @@ static int load(const char *name)
         fprintf(stderr, "%s: refused, number %u at token %zu\n", name, (unsigned)verdict.number, verdict.position);
         return 1;
     }
+    tell_notes(name, verdict.tokens);
     printf("%s: %zu tokens, %zu instructions, ", name, verdict.tokens, verdict.instructions);
     hand_to_device(bytes, length);
     return 0;

@@ -949,6 +949,83 @@ struct second_read second_read(uint32_t version, const uint32_t *tokens, size_t 
     return result;
 }
 
+/* ---- Notes on what drivers read otherwise ------------------------------ */
+
+/* The row of comments right before an instruction. */
+struct comments {
+    size_t begin;
+    unsigned count;
+    unsigned empty;  /* how many of them have no body */
+    bool ends_empty; /* whether the last one has none */
+};
+
+/*
+ * wined3d 8.0 steps over comments twice before it takes an opcode, and stops each
+ * time behind an empty one. Between the two it looks whether END is there. So it
+ * comes through a row with at most two empty comments, the second one at its end,
+ * and to an END only if no comment stands behind the first empty one.
+ */
+static bool wined3d_is_lost(const struct comments *before, uint32_t opcode)
+{
+    if (opcode == SECOND_COMMENT)
+        return before->empty == 2;
+    if (opcode == SECOND_END)
+        return before->empty > 1 || (before->empty == 1 && !before->ends_empty);
+    return false;
+}
+
+static uint32_t shapes_of(uint32_t version, const struct second_record *record, const struct comments *before)
+{
+    uint32_t notes = 0;
+    if (wined3d_is_lost(before, record->opcode))
+        notes |= 1;
+    if (record->opcode == SECOND_END && before->count > 0)
+        notes |= 2;
+    if (version == 0xFFFE0300 && record->opcode == 34)
+        notes |= 4;
+    /* TEXKILL has no source: its predicate is last as well as behind the destination */
+    if (record->predicated && record->opcode != 65)
+        notes |= 8;
+    /* IFC and BREAKC begin with a source */
+    if (version == 0xFFFE0300 && record->operands[0].relative && record->opcode != 41 && record->opcode != 45)
+        notes |= 16;
+    if (record->opcode == 0xFFFD && record->coissue)
+        notes |= 32;
+    return notes;
+}
+
+struct second_noted second_note(uint32_t version, const uint32_t *tokens, size_t count, size_t from)
+{
+    struct second_noted result = {0};
+    struct comments before = {0};
+    for (size_t at = from;;) {
+        const struct second_read read = second_read(version, tokens, count, at);
+        if (read.number != SECOND_YES) {
+            result.number = read.number;
+            result.position = read.position;
+            return result;
+        }
+        if (before.count == 0)
+            before.begin = at;
+        const uint32_t notes = shapes_of(version, &read.record, &before);
+        if (notes != 0 || read.record.opcode == SECOND_END) {
+            result.notes = notes;
+            result.at = at;
+            result.comments = before.begin;
+            result.next = read.next;
+            return result;
+        }
+        if (read.record.opcode == SECOND_COMMENT) {
+            before.count++;
+            before.ends_empty = read.record.length == 0;
+            before.empty += before.ends_empty;
+        } else {
+            before = (struct comments){0};
+        }
+        at = (size_t)read.next;
+    }
+}
+
 /* ---- Writer ----------------------------------------------------------- */
 
 /* Any record packs into this, also one where all is relative. */

@@ -1,6 +1,6 @@
 /*
  * A second program for the rules of documents 01 and 02: check, reader, writer
- * and edit of shader token streams (vs_1_1, vs_2_0, vs_3_0, ps_1_1 to ps_1_4,
+ * and edit of shader token streams, and the shapes of docs/DRIVERS.md (vs_1_1, vs_2_0, vs_3_0, ps_1_1 to ps_1_4,
  * ps_2_0, ps_3_0).
  *
  * Nothing here allocates or keeps state between calls. A pointer whose length
@@ -87,6 +87,19 @@ struct second_read {
 
 /* Reads the instruction at tokens[at]. Positions count from tokens[0]. */
 struct second_read second_read(uint32_t version, const uint32_t *tokens, size_t count, size_t at);
+
+/*
+ * Shapes that a driver reads otherwise, by docs/DRIVERS.md. Yes: number 0,
+ * position 0; the sum of the shapes at `at` (0 at an END without one), where the
+ * comments right before it begin, and the place behind it. Refusal: all else 0.
+ */
+struct second_noted {
+    uint32_t number, position, notes;
+    uint64_t at, comments, next;
+};
+
+/* The first instruction with a shape from tokens[from] on, or END. */
+struct second_noted second_note(uint32_t version, const uint32_t *tokens, size_t count, size_t from);
 
 /* Refusal: next 0. */
 struct second_written {

@@ -1,5 +1,5 @@
 /*
- * The proved library beside the second program, on the same data: every answer, every record and every
+ * The proved library beside the second program, on the same data: every answer, every record, every note and every
  * buffer is compared, and every record that was read is written back and compared with the stream. Prints
  * each difference (the first few) and, last, 'N passed, M failed'.
  *
@@ -189,6 +189,85 @@ static void read_all(struct generate_source *source, unsigned rounds)
     generate_systematic(read_one, NULL);
 }
 
+/* ---- Notes ------------------------------------------------------------ */
+
+static struct second_noted note_at(uint32_t version, const uint32_t *tokens, size_t length, size_t from)
+{
+    const struct second_noted expected = second_note(version, tokens, length, from);
+    const struct santubeli_noted given = santubeli_note(version, tokens, length, from);
+    if (count(expected.number == given.number && expected.position == given.position && expected.notes == given.notes
+              && expected.at == given.at && expected.comments == given.comments && expected.next == given.next)) {
+        show("note", tokens, length);
+        printf("  from %zu: second %" PRIu32 "@%" PRIu32 " notes %" PRIu32 " at %" PRIu64 ", proved %" PRIu32 "@%zu notes %" PRIu32
+               " at %zu\n", from, expected.number, expected.position, expected.notes, expected.at, given.number, given.position,
+               given.notes, given.at);
+    }
+    return expected;
+}
+
+/* From note to note, and from some places between. */
+static void note_stream(struct generate_source *source, const uint32_t *tokens, size_t length)
+{
+    for (size_t from = 1; from < length;) {
+        const struct second_noted one = note_at(tokens[0], tokens, length, from);
+        if (one.number != 0 || one.notes == 0)
+            break;
+        from = (size_t)one.next;
+    }
+    for (unsigned k = 0; k < 4; k++)
+        note_at(tokens[0], tokens, length, generate_below(source, length + 2));
+}
+
+static void note_one(void *context, const uint32_t *tokens, size_t length)
+{
+    (void)context;
+    if (length > 1)
+        note_at(tokens[0], tokens, length, 1);
+}
+
+/* A stream of comments, most of them empty, with an instruction here and there. */
+static size_t comments_stream(struct generate_source *source, unsigned version, uint32_t *tokens)
+{
+    const size_t pieces = generate_below(source, 12);
+    size_t length = 0;
+    tokens[length++] = generate_version(version);
+    for (size_t k = 0; k < pieces; k++) {
+        if (generate_chance(source, 1, 4)) {
+            length += generate_instruction(source, version, tokens + length, GENERATE_INSTRUCTION);
+            continue;
+        }
+        const uint32_t body = generate_chance(source, 2, 3) ? 0 : (uint32_t)generate_below(source, 3);
+        tokens[length++] = 0xFFFE | body << 16;
+        for (uint32_t b = 0; b < body; b++)
+            tokens[length++] = generate_chance(source, 1, 2) ? 0x0000FFFF : 0x0000FFFE;
+    }
+    tokens[length++] = 0x0000FFFF;
+    return length;
+}
+
+static void note_all(struct generate_source *source, unsigned rounds)
+{
+    static uint32_t tokens[GENERATE_ROOM];
+    for (unsigned round = 0; round < rounds; round++) {
+        const unsigned version = round % GENERATE_VERSIONS;
+        const size_t length = generate_length(source, 200);
+        generate_valid(source, version, tokens, length);
+        note_stream(source, tokens, length);
+        const size_t damaged = generate_damaged(source, version, tokens, 200);
+        if (damaged > 0)
+            note_stream(source, tokens, damaged);
+        note_stream(source, tokens, comments_stream(source, version, tokens));
+    }
+    generate_valid(source, 0, tokens, GENERATE_MAX);
+    tokens[GENERATE_MAX] = 0;
+    note_at(tokens[0], tokens, GENERATE_MAX, 1);
+    note_at(tokens[0], tokens, GENERATE_MAX + 1, 1);
+    note_at(tokens[0], tokens, 5, SIZE_MAX);
+    note_at(0, tokens, 5, 1);
+    note_at(tokens[0], NULL, 0, 0);
+    generate_systematic(note_one, NULL);
+}
+
 /* ---- Write ------------------------------------------------------------ */
 
 static void write_record(struct generate_source *source, uint32_t version, const struct second_record *record)
@@ -279,6 +358,7 @@ int main(int argc, char **argv)
 
     check_all(&source, rounds);
     read_all(&source, rounds / 4);
+    note_all(&source, rounds / 4);
     write_all(&source, rounds);
     edit_all(&source, 2 * rounds);
     printf("%" PRIu64 " passed, %" PRIu64 " failed\n", passed, failed);

@@ -260,10 +260,58 @@ static void edit_first_versions(void)
            "without its PHASE: ACCEPTED, although no block is open");
 }
 
+static bool noted(struct santubeli_noted n, uint32_t notes, size_t at, size_t comments, size_t next)
+{
+    return n.number == 0 && n.position == 0 && n.notes == notes && n.at == at && n.comments == comments && n.next == next;
+}
+
+static bool unnoted(struct santubeli_noted n, uint32_t number, size_t position)
+{
+    return n.number == number && n.position == position && n.notes == 0 && n.at == 0 && n.comments == 0 && n.next == 0;
+}
+
+/* The shapes of docs/DRIVERS.md, each in its shortest stream, and the search from any place. */
+static void note_entries(void)
+{
+    const uint32_t empty[] = {0xFFFE0200, 0x0000FFFE, 0x0000FFFE, 0x0000FFFF};
+    const uint32_t thrice[] = {0xFFFF0101, 0x0000FFFE, 0x0000FFFE, 0x0000FFFE, 0x00000000, 0x0000FFFF};
+    const uint32_t further[] = {0xFFFF0300, 0x00000000, 0x0001FFFE, 0x0000FFFF, 0x0000FFFE, 0x0001FFFE, 0x0000FFFE, 0x0000FFFF};
+    const uint32_t sgn[] = {0xFFFE0300, 0x04000022, 0x800F0000, 0x80E40000, 0x80E40000, 0x80E40000, 0x0000FFFF};
+    const uint32_t predicated[] = {0xFFFE0300, 0x13000001, 0x800F0000, 0xB0E41000, 0xA0E40000, 0x0000FFFF};
+    const uint32_t texkill[] = {0xFFFF0300, 0x12000041, 0x800F0000, 0xB0E41000, 0x0000FFFF};
+    const uint32_t relative[] = {0xFFFE0300, 0x03000001, 0xE00F2000, 0xB0000000, 0xA0E40000, 0x0000FFFF};
+    const uint32_t source[] = {0xFFFE0300, 0x03000001, 0x800F0000, 0xA0E42000, 0xB0000000, 0x0000FFFF};
+    const uint32_t phase[] = {0xFFFF0104, 0x4000FFFD, 0x0000FFFF};
+    const uint32_t nop[] = {0xFFFE0300, 0x00000000, 0x0000FFFF};
+
+    expect(noted(santubeli_note(move[0], move, 5, 1), 0, 4, 4, 5), "mov has no note");
+    expect(noted(santubeli_note(empty[0], empty, 4, 1), SANTUBELI_WINED3D_COMMENTS | SANTUBELI_NINE_COMMENTS, 3, 1, 4), "two empty comments");
+    expect(noted(santubeli_note(empty[0], empty, 4, 2), SANTUBELI_NINE_COMMENTS, 3, 2, 4), "the second one alone");
+    expect(noted(santubeli_note(empty[0], empty, 4, 3), 0, 3, 3, 4), "END alone");
+    expect(unnoted(santubeli_note(empty[0], empty, 4, 4), SANTUBELI_RUN_OUT, 4), "behind END");
+    expect(noted(santubeli_note(thrice[0], thrice, 6, 1), SANTUBELI_WINED3D_COMMENTS, 3, 1, 4), "three empty comments");
+    expect(noted(santubeli_note(thrice[0], thrice, 6, 4), 0, 5, 5, 6), "behind them");
+    expect(noted(santubeli_note(further[0], further, 8, 1), SANTUBELI_WINED3D_COMMENTS | SANTUBELI_NINE_COMMENTS, 7, 2, 8), "comments of every kind");
+    expect(noted(santubeli_note(sgn[0], sgn, 7, 1), SANTUBELI_WINED3D_SGN, 1, 1, 6), "SGN in vs_3_0");
+    expect(noted(santubeli_note(0xFFFE0200, sgn, 7, 1), 0, 6, 6, 7), "SGN in vs_2_0");
+    expect(noted(santubeli_note(predicated[0], predicated, 6, 1), SANTUBELI_MOJOSHADER_PREDICATE, 1, 1, 5), "a predicate");
+    expect(noted(santubeli_note(texkill[0], texkill, 5, 1), 0, 4, 4, 5), "a predicated TEXKILL");
+    expect(noted(santubeli_note(relative[0], relative, 6, 1), SANTUBELI_MOJOSHADER_DESTINATION, 1, 1, 5), "a relative destination");
+    expect(noted(santubeli_note(source[0], source, 6, 1), 0, 5, 5, 6), "a relative source");
+    expect(noted(santubeli_note(phase[0], phase, 3, 1), SANTUBELI_MOJOSHADER_PHASE, 1, 1, 2), "a co-issued PHASE");
+    expect(noted(santubeli_note(nop[0], nop, 3, 1), 0, 2, 2, 3), "a NOP before END, whose bit 13 is no destination's");
+    expect(unnoted(santubeli_note(move[0], NULL, 0, 0), SANTUBELI_RUN_OUT, 0), "no tokens, null");
+    expect(unnoted(santubeli_note(move[0], move, 5, SIZE_MAX), SANTUBELI_RUN_OUT, 5), "a place far past the end");
+    expect(unnoted(santubeli_note(0, move, 5, 1), SANTUBELI_VERSION, 0), "no version");
+    expect(unnoted(santubeli_note(move[0], move, 4, 1), SANTUBELI_RUN_OUT, 4), "no END");
+    expect(unnoted(santubeli_note(move[0], move, 5, 2), SANTUBELI_BITS, 2), "a place inside an instruction");
+}
+
 int main(void)
 {
     check_entries();
     read_entries();
+    note_entries();
     write_entries();
     edit_entries();
     predicate_entries();

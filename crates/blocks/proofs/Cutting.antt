@@ -12,7 +12,7 @@ use Rattle.paper.specs.Stream.{cutOne, cutting, cutFrom}
 use Rattle.paper.specs.declared.Version.{Version}
 use Rattle.paper.specs.declared.Judged.{Judged}
 use Rattle.paper.specs.declared.Judged.the-variants.{Good, Refused}
-use Rattle.blocks.specs.Reach.{movedCut}
+use Rattle.blocks.specs.Reach.{movedCut, startOf}
 
 -- only what follows an instruction's first token is ever asked for
 cut-one : (judgement : Judged) (p : ℕ) (f g : ℕ → Cut) → ((n : ℕ) → f (suc n) ≡ g (suc n)) → cutOne judgement p f ≡ cutOne judgement p g
@@ -59,6 +59,23 @@ module _ (v : Version) (s : List ℕ) (p : ℕ) where
   pub cut-at : p < length s → cutFrom v s p ≡ cutOne (judged v (drop p s)) p (λ n. cutFrom v s (p + n))
   unfolding cutFrom
   cut-at h = cut-list (drop p s) refl h
+
+-- a cut begins at its position
+start-one : (judgement : Judged) (p : ℕ) (rest : ℕ → Cut) → startOf (cutOne judgement p rest) ≡ p
+unfolding startOf
+start-one (Good size class) p rest = refl
+start-one (Refused r) p rest = refl
+
+pub start-of : (most : ℕ) (v : Version) (tokens : List ℕ) (p : ℕ) → startOf (cutting most v tokens p) ≡ p
+unfolding startOf cutting
+start-of zero v tokens p = refl
+start-of (suc most) v [] p = refl
+start-of (suc most) v (token ∷ rest) p =
+    start-one (judged v (token ∷ rest)) p (λ n. cutting most v (drop n (token ∷ rest)) (p + n))
+
+pub start-at : (v : Version) (s : List ℕ) (p : ℕ) → startOf (cutFrom v s p) ≡ p
+unfolding cutFrom
+start-at v s p = start-of (length (drop p s)) v (drop p s) p
 
 -- the cut where every position is moved: what was at p is at q
 module _ (p q : ℕ) where

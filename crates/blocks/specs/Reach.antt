@@ -42,3 +42,9 @@ unfoldable pub movedCut : (ℕ → ℕ) → Cut → Cut
 movedCut f (out p) = out (f p)
 movedCut f (wrong p r) = wrong (f p) (movedRefusal f r)
 movedCut f (then c p a) = then c (f p) (movedCut f a)
+
+-- the position that a cut begins at
+unfoldable pub startOf : Cut → ℕ
+startOf (out p) = p
+startOf (wrong p r) = p
+startOf (then c p a) = p

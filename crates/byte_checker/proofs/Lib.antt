@@ -1,4 +1,5 @@
 pub mod Tokens
+pub mod Fitting
 pub mod Turn
 pub mod Verdicts
 pub mod OneAnswer

@@ -1,7 +1,7 @@
 -- Document 01, "What the build does": "it hands the check a byte range, tokens little-endian".
 use Prim.Native.Nat.{ℕ, _+_, _*_, _%_}
 use mathlib.Core.List.{List, [], _∷_}
-use lib.Dec.{eqb}
+use lib.Dec.{eqb, ltb}
 use lib.ListN.{length, getD}
 use Rattle.paper.specs.Notation.{pick}
 use Rattle.paper.specs.Numbers.{refusal}
@@ -25,6 +25,10 @@ tokensIn (b0 ∷ b1 ∷ b2 ∷ b3 ∷ rest) = littleEndian b0 b1 b2 b3 ∷ token
 -- the token at a place
 abbrev pub tokenIn : List ℕ → ℕ → ℕ
 tokenIn bytes at = littleEndian (getD bytes (4 * at) 0) (getD bytes (4 * at + 1) 0) (getD bytes (4 * at + 2) 0) (getD bytes (4 * at + 3) 0)
+
+-- how many of n fit into a room
+abbrev pub fitting : ℕ → ℕ → ℕ
+fitting n room = pick (ltb room n) room n
 
 -- LENGTH: "bytes not a multiple of 4"
 unfoldable pub bytesVerdict : List ℕ → Verdict

@@ -1,11 +1,12 @@
 // The check of a byte range: document 01, "What the build does".
 ghost use mathlib.Core.Path.{_≡_};
-ghost use Prim.Native.Nat.{_+_, _*_, _<_, _≤_};
+ghost use Prim.Native.Nat.{_+_, _*_, _/_, _<_, _≤_};
 ghost use lib.ListN.{length, take, drop};
+ghost use lib.Seq.{sets};
 ghost use Rattle.paper.specs.Numbers.{told, refusal};
 ghost use Rattle.paper.specs.Stream.{walked};
 ghost use Rattle.walk.specs.Stands.{Stands, Comes};
-ghost use Rattle.byte_checker.specs.Bytes.{tokenIn, tokensIn, bytesVerdict};
+ghost use Rattle.byte_checker.specs.Bytes.{tokenIn, tokensIn, fitting, bytesVerdict};
 ghost use Rattle.byte_checker.specs.Views.{Within, held as heldOf};
 use paper::Named;
 use paper::Reason;
@@ -41,13 +42,34 @@ fn token_at(bytes: &[u8], at: usize) -> u32
 // The `n` tokens from `from` on, at the front of a window.
 fn fill(window: &mut [u32], bytes: &[u8], from: usize, n: usize)
     requires { ⌜ (n ≤ length (now window)) × (4 * (from + n) ≤ length (now bytes)) ⌝ }
-    ensures { λ _. ⌜ take n (now (window .exit)) ≡ take n (drop from (tokensIn (now (bytes .entry)))) ⌝ }
+    ensures { λ _. ⌜ now (window .exit) ≡ sets (now (window .entry)) 0 (take n (drop from (tokensIn (now (bytes .entry))))) ⌝ }
 {
     let mut k = 0;
     while k < n {
         window[k] = token_at(bytes, from + k);
         k += 1;
     }
+}
+
+// How many of n elements a room takes.
+fn fitting_in(room: usize, n: usize) -> usize
+    ensures { λ r. ⌜ r ≡ fitting n room ⌝ }
+{
+    if room < n {
+        return room;
+    }
+    n
+}
+
+// The tokens of a byte range at the front of a buffer, all or as many as it has room for, and how many they are.
+pub fn decode(bytes: &[u8], room: &mut [u32]) -> usize
+    ensures count { λ r. ⌜ r ≡ fitting (length (now (bytes .entry)) / 4) (length (now (room .entry))) ⌝ }
+    ensures held { λ r. ⌜ now (room .exit) ≡ sets (now (room .entry)) 0 (take (fitting (length (now (bytes .entry)) / 4) (length (now (room .entry)))) (tokensIn (now (bytes .entry)))) ⌝ }
+    ensures fits { λ r. ⌜ r ≤ length (now (room .exit)) ⌝ }
+{
+    let n = fitting_in(room.len(), bytes.len() / 4);
+    fill(room, bytes, 0, n);
+    n
 }
 
 fn refused(reason: Reason, position: usize) -> Verdict

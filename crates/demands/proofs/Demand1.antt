@@ -31,15 +31,21 @@ use Rattle.reader.specs.declared.Answer.{Answer as Answered}
 use Rattle.reader.specs.declared.Answer.the-variants.{Got, Refused as Unread}
 use Rattle.reader.specs.Reading.{unread, readJudged, readingAt, onVersion, reading}
 use Rattle.writer.specs.Writing.{ToldWriting, Writes, unnamed, unwritable, cramped, written}
+use Rattle.notes.specs.declared.Noted.{Noted}
+use Rattle.notes.specs.declared.Noted.the-variants.{Found, Refused as Unnoted}
+use Rattle.notes.specs.Noted.{onVersion as onNamed, noted}
+use Rattle.notes.proofs.Ends.{search-ends}
+use Rattle.notes.proofs.Places.{Lies, lying}
 use Rattle.edit.specs.declared.Edited.{Edited}
 use Rattle.edit.specs.declared.Edited.the-variants.{Joined, Accepted as Edited-in-full, Refused as Unedited}
 use Rattle.edit.specs.Edit.{splice, newLength, placed, fits, meetsAtEnd, onVerdict, spliced, editRefused, editNamed, edited, editedIn, bufferAfter as editedBuffer}
 use Rattle.edit.proofs.Allowed.{Allowed, splice-verdict}
 use Rattle.edit.proofs.BufferHoldsTheSplice.{refused-keeps}
 use Rattle.paper.proofs.Bools.{apart}
+use Rattle.paper.proofs.OneToOne.{no-reason-zero}
 use Rattle.santubeli.specs.declared.Answer.{Answer}
-use Rattle.santubeli.specs.Entries.{answerOf, readAnswer, editAnswerOf}
-use Rattle.demands.specs.Demand1.{readNumbers, checkNumbers, writeNumbers, editNumbers, Numbered, Tells, accepts, refuses, KeptUnlessYes, Demand1}
+use Rattle.santubeli.specs.Entries.{answerOf, readAnswer, noteAnswerOf, editAnswerOf}
+use Rattle.demands.specs.Demand1.{readNumbers, checkNumbers, writeNumbers, editNumbers, Numbered, Tells, accepts, refuses, KeptUnlessYes, Ahead, Demand1}
 use Rattle.demands.proofs.NumbersAndPositions.{Fits, at-start, at-token, widened, instruction-fits, refused-inside, check-fits}
 
 -- a check: its answer tells what its verdict is
@@ -99,6 +105,32 @@ module _ (tokens : List ℕ) (at : ℕ) where
   read-fits : (version : ℕ) → AnswerFits (reading version tokens at .answer)
   unfolding reading
   read-fits version = by-length (named version) (leb (length tokens) mostTokens)
+
+-- the notes
+module _ (tokens : List ℕ) (from : ℕ) where
+  abbrev NotedFits : Noted → Type 0
+  NotedFits (Found n) = Lies tokens from n
+  NotedFits (Unnoted r) = Fits readNumbers (length tokens) r
+
+  noted-version : (name : Named) → NotedFits (onNamed name tokens from)
+  noted-version (Known v) =
+      search-ends v tokens from NotedFits (at-token readNumbers (length tokens) 5 (length tokens) (omega arith) refl refl)
+      (λ p r some j. instruction-fits v (drop p tokens) r j (length tokens) (p + r .position) (refused-inside v tokens p r (omega arith) j))
+      (λ p size notes comments class ahead behind some j. lying tokens from v p size notes comments class ahead behind some j _ refl)
+  noted-version Unknown = at-start readNumbers (length tokens) 2 refl
+
+  noted-length : (name : Named) (few : Bool) → NotedFits (pick few (onNamed name tokens from) (Unnoted (refusal LENGTH 0)))
+  noted-length name true = noted-version name
+  noted-length name false = at-start readNumbers (length tokens) 1 refl
+
+  note-fits : (version : ℕ) → NotedFits (noted version tokens from)
+  unfolding noted
+  note-fits version = noted-length (named version) (leb (length tokens) mostTokens)
+
+  told-note : (x : Noted) → NotedFits x →
+      Tells readNumbers (length tokens) (noteAnswerOf x .number) (noteAnswerOf x .position) × (noteAnswerOf x .number ≡ 0 → Ahead tokens from (noteAnswerOf x))
+  told-note (Found n) h = (accepts, λ yes. record { comes = h .comes; begins = h .begins; ends = h .ends; inside = h .inside })
+  told-note (Unnoted r) h = (refuses h, λ yes. absurd (no-reason-zero (r .reason) (sym yes)))
 
 -- the writer
 told-writing : {version : ℕ} {instruction : Record} {body buffer : List ℕ} {at : ℕ} {told : ToldWriting} {after : List ℕ} →
@@ -171,6 +203,7 @@ demand-1 = record {
   check-of-tokens = λ tokens answer e. checked (length tokens) (length tokens) (verdict tokens) (check-fits tokens) answer e;
   read = λ version tokens at answer e.
       rw e (told-answer tokens at (reading version tokens at .instruction) (reading version tokens at .answer) (read-fits tokens at version));
+  note = λ version tokens from answer e. rw e (told-note tokens from (noted version tokens from) (note-fits tokens from version));
   write = λ version instruction body buffer at answer after w. told-writing w;
   edit = λ buffer n i j run answer after w. rw (w .0, w .1) (told-edit buffer n i j run (editedIn buffer n i j run) refl);
 }

@@ -4,7 +4,7 @@
 -- That every call ends needs no statement here: a function is proved only if it ends, whatever it is called with. No entry has a
 -- `requires`, so each statement below is of any bytes, tokens and numbers. Bytes, tokens, a body and a run are lent to be read alone; what
 -- is lent to be written is the buffer of the writer and of the edit.
-use Prim.Native.Nat.{ℕ, _/_, _≤_}
+use Prim.Native.Nat.{ℕ, _/_, _<_, _≤_}
 use mathlib.Core.Path.{_≡_}
 use mathlib.Core.Bool.{true}
 use mathlib.Core.List.{List, [], _∷_, _++_}
@@ -15,12 +15,14 @@ use Rattle.byte_checker.specs.Bytes.{bytesVerdict}
 use Rattle.records.specs.declared.Record.{Record}
 use Rattle.reader.specs.Reading.{reading}
 use Rattle.writer.specs.Writing.{Writes}
+use Rattle.notes.specs.Noted.{noted}
 use Rattle.edit.specs.Edit.{splice, editedIn, bufferAfter as editedBuffer}
 use Rattle.santubeli.specs.declared.Answer.{Answer}
 use Rattle.santubeli.specs.declared.ReadAnswer.{ReadAnswer}
+use Rattle.santubeli.specs.declared.NoteAnswer.{NoteAnswer}
 use Rattle.santubeli.specs.declared.WriteAnswer.{WriteAnswer}
 use Rattle.santubeli.specs.declared.EditAnswer.{EditAnswer}
-use Rattle.santubeli.specs.Entries.{answerOf, readAnswerOf, writeTold, editAnswerOf}
+use Rattle.santubeli.specs.Entries.{answerOf, readAnswerOf, noteAnswerOf, writeTold, editAnswerOf}
 
 -- the numbers of the table that the reader can give: "LENGTH (over 16,384 only), VERSION, RUN-OUT, then one instruction's refusals up to
 -- SIZE", OPERAND and REGISTER among these
@@ -59,7 +61,7 @@ abbrev pub KeptUnlessYes : ℕ → List ℕ → List ℕ → Type 0
 KeptUnlessYes number buffer after = (number ≡ 0 → ⊥) → after ≡ buffer
 
 -- What each entry promises of its answer, and of the buffer at exit. These are the `ensures` of `santubeli_check`,
--- `santubeli_check_tokens`, `santubeli_read`, `santubeli_write` and `santubeli_edit`.
+-- `santubeli_check_tokens`, `santubeli_read`, `santubeli_note`, `santubeli_write` and `santubeli_edit`.
 
 abbrev pub ChecksBytes : List ℕ → Answer → Type 0
 ChecksBytes bytes answer = answer ≡ answerOf (length bytes / 4) (bytesVerdict bytes)
@@ -69,6 +71,16 @@ Checks tokens answer = answer ≡ answerOf (length tokens) (verdict tokens)
 
 abbrev pub Reads : ℕ → List ℕ → ℕ → ReadAnswer → Type 0
 Reads version tokens at answer = answer ≡ readAnswerOf (reading version tokens at)
+
+abbrev pub Notes : ℕ → List ℕ → ℕ → NoteAnswer → Type 0
+Notes version tokens at answer = answer ≡ noteAnswerOf (noted version tokens at)
+
+-- a note found from a place on: ahead of it, its comments before it, and the place behind it inside the tokens
+pub record Ahead (tokens : List ℕ) (from : ℕ) (answer : NoteAnswer) : Type 0 where
+  pub comes : from ≤ answer .at
+  pub begins : answer .comments ≤ answer .at
+  pub ends : answer .at < answer .next
+  pub inside : answer .next ≤ length tokens
 
 abbrev pub WritesFor : ℕ → Record → List ℕ → List ℕ → ℕ → WriteAnswer → List ℕ → Type 0
 WritesFor version instruction body buffer at answer after = Writes version instruction body buffer at (writeTold answer) after
@@ -90,6 +102,10 @@ pub record Demand1 : Type 0 where
   -- the tokens that is, and one that tells BLOCK of an ENDIF which it reads alone.
   pub read : (version : ℕ) (tokens : List ℕ) (at : ℕ) (answer : ReadAnswer) → Reads version tokens at answer →
       Tells readNumbers (length tokens) (answer .number) (answer .position)
+  -- The notes, from any place of any tokens on: the reader's refusals, and a yes that lies ahead, so that whoever goes on at the place behind
+  -- it comes to an end. This rules out a search that tells the same note for ever, and one that reads on behind the tokens.
+  pub note : (version : ℕ) (tokens : List ℕ) (from : ℕ) (answer : NoteAnswer) → Notes version tokens from answer →
+      Tells readNumbers (length tokens) (answer .number) (answer .position) × (answer .number ≡ 0 → Ahead tokens from answer)
   -- The writer: each of its refusals is at 0 and leaves the buffer as it was. This rules out a writer that puts the instruction token
   -- before it finds that the operands do not fit, and one that clears the place of a record which it refuses.
   pub write : (version : ℕ) (instruction : Record) (body buffer : List ℕ) (at : ℕ) (answer : WriteAnswer) (after : List ℕ) →

@@ -21,15 +21,15 @@ use Rattle.paper.specs.declared.Judged.{Judged}
 use Rattle.paper.specs.declared.Judged.the-variants.{Good, Refused as unfit}
 use Rattle.paper.specs.declared.Verdict.{Verdict}
 use Rattle.paper.specs.declared.Verdict.the-variants.{Accepted, Refused}
-use Rattle.blocks.specs.Reach.{moved, movedRefusal}
+use Rattle.blocks.specs.Reach.{moved, movedRefusal, startOf}
 use Rattle.blocks.proofs.Reach.{reached, joined}
-use Rattle.blocks.proofs.Cutting.{cut-moved}
+use Rattle.blocks.proofs.Cutting.{cut-moved, start-of}
 use Rattle.blocks.specs.Nesting.{nesting, countOf}
 use Rattle.blocks.proofs.Counting.{walked-nesting}
 use Rattle.edit.specs.declared.Edited.the-variants.{Joined}
 use Rattle.edit.specs.Boundaries.{standsWith, standingAt}
 use Rattle.edit.specs.Edit.{splice, newLength, meetsAtEnd, onVerdict, spliced, edited, carried}
-use Rattle.edit.proofs.Standing.{startOf, start-of, standing-reached}
+use Rattle.edit.proofs.Standing.{standing-reached}
 use Rattle.paper.proofs.Bools.{apart}
 use Rattle.edit.proofs.SameBlocks.{met}
 use Rattle.edit.proofs.Allowed.{places, joined-allowed, splice-verdict}

@@ -2,7 +2,7 @@
 use Prim.Native.Nat.{ℕ, zero, suc, _+_, _≤_, _<_}
 use mathlib.Core.Path.{_≡_, refl, ap, sym, _∙_}
 use mathlib.Core.Bool.{Bool, true, false}
-use mathlib.Core.List.{List, [], _∷_}
+use mathlib.Core.List.{List}
 use native.Mathlib.Omega.{arith}
 use lib.Dec.{eqb, leb}
 use lib.ListN.{length, drop}
@@ -10,15 +10,15 @@ use borrow.Author.Tests.{eqb-true, eq-eqb, ne-eqb, leb-true, leb-false}
 use Rattle.paper.proofs.Bools.{apart}
 use Rattle.paper.specs.Notation.{pick}
 use Rattle.paper.specs.Instruction.{judged}
-use Rattle.paper.specs.Blocks.{Cut, out, wrong, then}
+use Rattle.paper.specs.Blocks.{Cut, out, then}
 use Rattle.paper.specs.Walk.{WalkState, begin, Next, go, bad, finish, step}
-use Rattle.paper.specs.Stream.{cutOne, cutting, cutFrom}
+use Rattle.paper.specs.Stream.{cutOne, cutFrom}
 use Rattle.paper.specs.declared.Version.{Version}
 use Rattle.paper.specs.declared.Class.{Class}
 use Rattle.paper.specs.declared.Judged.{Judged}
 use Rattle.paper.specs.declared.Judged.the-variants.{Good, Refused}
-use Rattle.blocks.specs.Reach.{Reaches, here, past}
-use Rattle.blocks.proofs.Cutting.{cut-none, cut-at}
+use Rattle.blocks.specs.Reach.{Reaches, here, past, startOf}
+use Rattle.blocks.proofs.Cutting.{cut-none, cut-at, start-at}
 use Rattle.edit.specs.Boundaries.{nowhere, standsWith, onward, standing, standingAt}
 
 -- two constructors are never equal
@@ -112,28 +112,6 @@ standing-comes v s q w e = found (length s) v s 1 q begin w (omega arith) e
 pub standing-reached : (v : Version) (s : List ℕ) (q : ℕ) (w : WalkState) → standingAt v s q ≡ standsWith w →
     (1 ≤ q) × (q < length s) × Reaches (cutFrom v s 1) begin (cutFrom v s q) w
 standing-reached v s q w e = let f = standing-comes v s q w e in (ahead (f .0), f .1, comes-reaches (f .0))
-
--- the position that a cut begins at
-unfoldable pub startOf : Cut → ℕ
-startOf (out p) = p
-startOf (wrong p r) = p
-startOf (then class p rest) = p
-
-start-one : (judgement : Judged) (p : ℕ) (rest : ℕ → Cut) → startOf (cutOne judgement p rest) ≡ p
-unfolding startOf
-start-one (Good size class) p rest = refl
-start-one (Refused r) p rest = refl
-
-pub start-of : (most : ℕ) (v : Version) (tokens : List ℕ) (p : ℕ) → startOf (cutting most v tokens p) ≡ p
-unfolding startOf cutting
-start-of zero v tokens p = refl
-start-of (suc most) v [] p = refl
-start-of (suc most) v (token ∷ rest) p =
-    start-one (judged v (token ∷ rest)) p (λ n. cutting most v (drop n (token ∷ rest)) (p + n))
-
-start-at : (v : Version) (s : List ℕ) (p : ℕ) → startOf (cutFrom v s p) ≡ p
-unfolding cutFrom
-start-at v s p = start-of (length (drop p s)) v (drop p s) p
 
 -- what a walk reaches, it comes to
 module _ (v : Version) (s : List ℕ) (q : ℕ) where

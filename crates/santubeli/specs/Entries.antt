@@ -12,6 +12,9 @@ use Rattle.edit.specs.declared.Edited.the-variants.{Joined, Accepted as Edited-
 use Rattle.santubeli.specs.declared.EditAnswer.{EditAnswer}
 use Rattle.writer.specs.Writing.{ToldWriting}
 use Rattle.santubeli.specs.declared.WriteAnswer.{WriteAnswer}
+use Rattle.notes.specs.declared.Noted.{Noted}
+use Rattle.notes.specs.declared.Noted.the-variants.{Found, Refused as Unnoted}
+use Rattle.santubeli.specs.declared.NoteAnswer.{NoteAnswer}
 use Rattle.santubeli.specs.declared.Answer.{Answer}
 use Rattle.santubeli.specs.declared.ReadAnswer.{ReadAnswer}
 
@@ -27,6 +30,13 @@ readAnswer (Unread r) instruction = record { number = numberOf (r .reason); posi
 
 abbrev pub readAnswerOf : Reading → ReadAnswer
 readAnswerOf reading = readAnswer (reading .answer) (reading .instruction)
+
+-- a note: the shapes, their place, where the comments right before it begin, and the place behind; a refusal has none of these
+abbrev pub noteAnswerOf : Noted → NoteAnswer
+noteAnswerOf (Found n) =
+    record { number = 0; position = 0; notes = n .notes; at = n .at; comments = n .comments; next = n .next }
+noteAnswerOf (Unnoted r) =
+    record { number = numberOf (r .reason); position = r .position; notes = 0; at = 0; comments = 0; next = 0 }
 
 -- an edit: both yeses have number 0 and give the new length, and joined tells them apart; a refusal has length 0
 abbrev pub editAnswerOf : Edited → EditAnswer

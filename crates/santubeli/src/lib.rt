@@ -5,10 +5,12 @@ ghost use lib.ListN.{length};
 ghost use Rattle.paper.specs.Stream.{verdict};
 ghost use Rattle.byte_checker.specs.Bytes.{bytesVerdict};
 ghost use Rattle.reader.specs.Reading.{reading};
-ghost use Rattle.santubeli.specs.Entries.{answerOf, readAnswerOf, editAnswerOf, writeTold};
+ghost use Rattle.santubeli.specs.Entries.{answerOf, readAnswerOf, editAnswerOf, noteAnswerOf, writeTold};
 ghost use Rattle.writer.specs.Writing.{toldWriting, Writes};
+ghost use Rattle.notes.specs.Noted.{noted};
 ghost use Rattle.edit.specs.Edit.{editedIn, bufferAfter};
 use edit::Edited;
+use notes::Noted;
 use paper::Verdict;
 use records::Record;
 use writer::Written;
@@ -91,6 +93,50 @@ pub extern "C" fn santubeli_read(version: u32, tokens: &[u32], at: usize) -> Rea
             }
         }
     }
+}
+
+#[repr(C)]
+pub struct NoteAnswer {
+    pub number: u32,
+    pub position: usize,
+    pub notes: u32,
+    pub at: usize,
+    pub comments: usize,
+    pub next: usize,
+}
+
+fn note_answer_of(noted: Noted) -> NoteAnswer
+    ensures { λ r. ⌜ r ≡ noteAnswerOf noted ⌝ }
+{
+    match noted {
+        Noted::Found(note) => NoteAnswer {
+            number: 0,
+            position: 0,
+            notes: note.notes,
+            at: note.at,
+            comments: note.comments,
+            next: note.next,
+        },
+        Noted::Refused(refusal) => {
+            let reason = refusal.reason;
+            NoteAnswer {
+                number: paper::number_of(reason),
+                position: refusal.position,
+                notes: 0,
+                at: 0,
+                comments: 0,
+                next: 0,
+            }
+        }
+    }
+}
+
+#[no_mangle]
+pub extern "C" fn santubeli_note(version: u32, tokens: &[u32], at: usize) -> NoteAnswer
+    ensures { λ r. ⌜ r ≡ noteAnswerOf (noted version (now (tokens .entry)) at) ⌝ }
+{
+    let noted = notes::next_note(version, tokens, at);
+    note_answer_of(noted)
 }
 
 #[repr(C)]

@@ -1,8 +1,11 @@
-// Checks one shader on standard input and prints one line: `accept tokens 5 instructions 1` or `refuse 9 at 3`.
+// Checks one shader on standard input and prints one line: `accept tokens 5 instructions 1` or `refuse 9 at 3`. Behind an accept stands a line for each
+// instruction with a shape that a named driver reads otherwise, as `note 3 at 5 comments 3`.
 // Where the input cannot be read there is no verdict: a line on standard error says why.
 mod input;
 
 use libc::STDOUT_FILENO;
+use notes::Note;
+use notes::Noted;
 use paper::Refusal;
 use paper::Verdict;
 
@@ -24,9 +27,46 @@ fn print_refused(refusal: Refusal) -> bool {
         && io::write_all(STDOUT_FILENO, b"\n")
 }
 
-fn print_verdict(tokens: usize, verdict: Verdict) -> bool {
+fn print_note(note: Note) -> bool {
+    io::write_all(STDOUT_FILENO, b"note ")
+        && io::print_decimal(STDOUT_FILENO, note.notes as u64)
+        && io::write_all(STDOUT_FILENO, b" at ")
+        && io::print_decimal(STDOUT_FILENO, note.at as u64)
+        && io::write_all(STDOUT_FILENO, b" comments ")
+        && io::print_decimal(STDOUT_FILENO, note.comments as u64)
+        && io::write_all(STDOUT_FILENO, b"\n")
+}
+
+// The notes of the stream from token 1 on, which its check has accepted.
+fn print_notes(version: u32, tokens: &[u32]) -> bool {
+    let mut at = 1;
+    while at < tokens.len() {
+        let noted = notes::next_note(version, tokens, at);
+        match noted {
+            Noted::Refused(_) => return true,
+            Noted::Found(note) => {
+                if note.notes == 0 {
+                    return true;
+                }
+                if !print_note(note) {
+                    return false;
+                }
+                at = note.next;
+            }
+        }
+    }
+    true
+}
+
+fn print_accepted_with_notes(bytes: &[u8], instructions: usize) -> bool {
+    let mut tokens = [0u32; 16384];
+    let held = byte_checker::decode(bytes, &mut tokens);
+    print_accepted(held, instructions) && print_notes(tokens[0], &tokens[..held])
+}
+
+fn print_verdict(bytes: &[u8], verdict: Verdict) -> bool {
     match verdict {
-        Verdict::Accepted(instructions) => print_accepted(tokens, instructions),
+        Verdict::Accepted(instructions) => print_accepted_with_notes(bytes, instructions),
         Verdict::Refused(refusal) => print_refused(refusal),
     }
 }
@@ -41,7 +81,7 @@ fn main() {
         return;
     }
     let verdict = byte_checker::check_bytes(&buffer[..held]);
-    if !print_verdict(held / 4, verdict) {
+    if !print_verdict(&buffer[..held], verdict) {
         os::fail(b"shader_check: standard output cannot be written");
     }
 }

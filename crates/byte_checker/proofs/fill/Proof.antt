@@ -4,7 +4,7 @@ use native.Mathlib.Omega.{arith}
 use lib.ListN.{length, take, drop}
 use lib.Seq.{sets}
 use borrow.Author.Needs.{needs}
-use Rattle.lists.proofs.Stores.{one-behind, all-behind, part-length, part-at, front-stored}
+use Rattle.lists.proofs.Stores.{one-behind, all-behind, part-length, part-at}
 use Rattle.byte_checker.specs.Bytes.{tokensIn}
 use Rattle.byte_checker.proofs.Tokens.{tokens-at, tokens-there}
 use Rattle.byte_checker.proofs.fill.Statement.{statement}
@@ -33,7 +33,7 @@ returns c =
     let l = c .before .loop in
     let source = take (g .n) (drop (g .from) (tokensIn (g .bytes .now))) in
     let long = part-length (tokensIn (g .bytes .now)) (g .from) (g .n) (tokens-there (g .bytes .now) (g .from + g .n) (omega arith)) in
-    front-stored (g .window .now) source (l .window) (g .n) (omega arith) (sym long) (all-behind (g .window .now) source 0 (l .window) (l .k) (omega arith) (l .inv .2))
+    all-behind (g .window .now) source 0 (l .window) (l .k) (omega arith) (l .inv .2)
 
 pub fill-spec : {M : Type 1} → statement M
 fill-spec =

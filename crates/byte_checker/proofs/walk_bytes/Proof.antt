@@ -10,6 +10,7 @@ use Rattle.walk.specs.Steps.{goesOn, verdictOf}
 use Rattle.walk.specs.Stands.{Stands, Comes}
 use Rattle.walk.proofs.OnStream.{stands-first}
 use Rattle.walk.proofs.Comes.{leftTo, comes-on, comes-turn, comes-verdict}
+use Rattle.lists.proofs.Stores.{part-length, front-stored}
 use Rattle.byte_checker.specs.Bytes.{tokensIn}
 use Rattle.byte_checker.proofs.Tokens.{tokens-length}
 use Rattle.byte_checker.proofs.walk_bytes.Statement.{statement}
@@ -63,9 +64,15 @@ walk-view-requires : tie.Need-walk-view-requires Inv-loop μ-loop
 walk-view-requires c κs =
     let n = c .before .before .before .before in
     let s = start (n .before .before .before .before) in
-    let e = n .view-from .ensures in (
+    let e = n .view-from .ensures in
+    let f = c .before .before .fill in
+    let held = n .view-from .result .held in
+    let tokens = tokensIn (s .args .bytes .now) in
+    let at = n .before .before .before .before .loop .step .state .at in
+    let long = part-length tokens at held (omega (arith, e .0, e .3 .inside, tokens-length (s .args .bytes .now) (s .args .tokens) (s .pre .1))) in (
       s .pre .1,
-      c .before .before .fill .ensures ∙ ap (λ (at : ℕ). take (n .view-from .result .held) (drop at (tokensIn (s .args .bytes .now)))) (sym (e .0)),
+      front-stored (n .before .before .before .before .loop .window) (take held (drop at tokens)) (f .last .0) held (view-fits n) (sym long) (f .ensures)
+          ∙ ap (λ (place : ℕ). take held (drop place tokens)) (sym (e .0)),
       e .3,
       stands (n .before .before) .0,
       omega (arith, e .0),

@@ -1,0 +1,6 @@
+-- What the proofs of the functions share, and the laws of the notes.
+pub mod FirstPlace
+pub mod Search
+pub mod Ends
+pub mod OneAnswer
+pub mod Places

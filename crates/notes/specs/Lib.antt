@@ -1,0 +1,3 @@
+-- Notes on shaders that drivers read otherwise: docs/DRIVERS.md.
+pub mod Shapes
+pub mod Noted
