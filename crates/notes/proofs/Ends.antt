@@ -22,7 +22,7 @@ use Rattle.notes.specs.declared.Before.{Before}
 use Rattle.notes.specs.declared.Before.the-variants.{Nothing, Comments, Stop, Further, SecondStop}
 use Rattle.notes.specs.declared.Noted.{Noted}
 use Rattle.notes.specs.declared.Noted.the-variants.{Found, Refused}
-use Rattle.notes.specs.Shapes.{notesOf, behindOf}
+use Rattle.notes.specs.NotedShapes.{notesOf, behindOf}
 use Rattle.notes.specs.Noted.{begin, note, ends, notedIn, notedFrom}
 
 -- comments begin before what they stand before

@@ -11,7 +11,7 @@ use Rattle.paper.specs.Instruction.{tokenHead, operand, operands, judged}
 use Rattle.paper.specs.Places.{entryOf, typedPlaces}
 use Rattle.paper.specs.Stream.{cutting, cutFrom}
 use Rattle.blocks.specs.Reach.{startOf}
-use Rattle.notes.specs.Shapes.{onOther}
+use Rattle.notes.specs.NotedShapes.{onOther}
 use Rattle.notes.specs.Noted.{notedIn, notedFrom, noted, ToldNoted, toldNoted}
 
 tells : List ℕ → ℕ → ℕ → ToldNoted

@@ -10,7 +10,7 @@ use Rattle.places.specs.Places.{placeBy, digits, decoded}
 use Rattle.places.proofs.Decoding.{decoded-zero, decoded-step}
 use Rattle.shapes.specs.Shape.{shapeOf, placesField}
 use Rattle.shapes.proofs.Shapes.{shape-absent, shape-places, digits-small, decoded-digits}
-use Rattle.notes.specs.Shapes.{beginsDestination}
+use Rattle.notes.specs.NotedShapes.{beginsDestination}
 
 -- the first of a row, if it has one
 abbrev firstOr : Place → List Place → Place

@@ -21,7 +21,7 @@ use Rattle.stretches.proofs.Stretches.{told-whole}
 use Rattle.blocks.proofs.Cutting.{cut-none, cut-at, start-at}
 use Rattle.notes.specs.declared.Before.{Before}
 use Rattle.notes.specs.declared.Noted.the-variants.{Found, Refused}
-use Rattle.notes.specs.Shapes.{notesOf, behindOf}
+use Rattle.notes.specs.NotedShapes.{notesOf, behindOf}
 use Rattle.notes.specs.Noted.{begin, note, ends, notedIn, notedFrom}
 
 module _ (v : Version) (s : List ℕ) (before : Before) (comments at : ℕ) where

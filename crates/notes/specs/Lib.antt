@@ -1,4 +1,4 @@
 -- Notes on shaders that drivers read otherwise: docs/DRIVERS.md.
-pub mod Shapes
+pub mod NotedShapes
 pub mod Stepping
 pub mod Noted

@@ -1,4 +1,4 @@
-use Rattle.notes.specs.Shapes.{onOther}
+use Rattle.notes.specs.NotedShapes.{onOther}
 use borrow.Author.Needs.{needs}
 use Rattle.notes.proofs.on_other.Statement.{statement}
 use Rattle.notes.proofs.on_other.Tie as tie
