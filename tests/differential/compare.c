@@ -112,6 +112,45 @@ static void check_all(struct generate_source *source, unsigned rounds)
     generate_systematic(check_stream, NULL);
 }
 
+/* ---- Places of streams ------------------------------------------------ */
+
+typedef void at_place(uint32_t version, const uint32_t *tokens, size_t length, size_t at);
+typedef void on_stream(struct generate_source *source, const uint32_t *tokens, size_t length);
+
+/* Lawful streams, and damaged ones. */
+static void visit_streams(struct generate_source *source, unsigned rounds, on_stream *visit)
+{
+    static uint32_t tokens[GENERATE_ROOM];
+    for (unsigned round = 0; round < rounds; round++) {
+        const unsigned version = round % GENERATE_VERSIONS;
+        const size_t length = generate_length(source, 200);
+        generate_valid(source, version, tokens, length);
+        visit(source, tokens, length);
+        const size_t damaged = generate_damaged(source, version, tokens, 200);
+        if (damaged > 0)
+            visit(source, tokens, damaged);
+    }
+}
+
+static void visit_any_places(struct generate_source *source, const uint32_t *tokens, size_t length, at_place *visit)
+{
+    for (unsigned k = 0; k < 4; k++)
+        visit(tokens[0], tokens, length, generate_below(source, length + 2));
+}
+
+/* The longest stream and one more, a place far away, no version, no tokens. */
+static void visit_limits(struct generate_source *source, at_place *visit)
+{
+    static uint32_t tokens[GENERATE_ROOM];
+    generate_valid(source, 0, tokens, GENERATE_MAX);
+    tokens[GENERATE_MAX] = 0;
+    visit(tokens[0], tokens, GENERATE_MAX, 1);
+    visit(tokens[0], tokens, GENERATE_MAX + 1, 1);
+    visit(tokens[0], tokens, 5, SIZE_MAX);
+    visit(0, tokens, 5, 1);
+    visit(tokens[0], NULL, 0, 0);
+}
+
 /* ---- Read ------------------------------------------------------------- */
 
 /* The two records have the same fields in the same order, all uint32_t. */
@@ -156,8 +195,7 @@ static void read_stream(struct generate_source *source, const uint32_t *tokens, 
             break;
         at = one.next;
     }
-    for (unsigned k = 0; k < 4; k++)
-        read_at(tokens[0], tokens, length, generate_below(source, length + 2));
+    visit_any_places(source, tokens, length, read_at);
 }
 
 static void read_one(void *context, const uint32_t *tokens, size_t length)
@@ -169,29 +207,14 @@ static void read_one(void *context, const uint32_t *tokens, size_t length)
 
 static void read_all(struct generate_source *source, unsigned rounds)
 {
-    static uint32_t tokens[GENERATE_ROOM];
-    for (unsigned round = 0; round < rounds; round++) {
-        const unsigned version = round % GENERATE_VERSIONS;
-        const size_t length = generate_length(source, 200);
-        generate_valid(source, version, tokens, length);
-        read_stream(source, tokens, length);
-        const size_t damaged = generate_damaged(source, version, tokens, 200);
-        if (damaged > 0)
-            read_stream(source, tokens, damaged);
-    }
-    generate_valid(source, 0, tokens, GENERATE_MAX);
-    tokens[GENERATE_MAX] = 0;
-    read_at(tokens[0], tokens, GENERATE_MAX, 1);
-    read_at(tokens[0], tokens, GENERATE_MAX + 1, 1);
-    read_at(tokens[0], tokens, 5, SIZE_MAX);
-    read_at(0, tokens, 5, 1);
-    read_at(tokens[0], NULL, 0, 0);
+    visit_streams(source, rounds, read_stream);
+    visit_limits(source, read_at);
     generate_systematic(read_one, NULL);
 }
 
 /* ---- Notes ------------------------------------------------------------ */
 
-static struct second_noted note_at(uint32_t version, const uint32_t *tokens, size_t length, size_t from)
+static void note_at(uint32_t version, const uint32_t *tokens, size_t length, size_t from)
 {
     const struct second_noted expected = second_note(version, tokens, length, from);
     const struct santubeli_noted given = santubeli_note(version, tokens, length, from);
@@ -202,20 +225,19 @@ static struct second_noted note_at(uint32_t version, const uint32_t *tokens, siz
                " at %zu\n", from, expected.number, expected.position, expected.notes, expected.at, given.number, given.position,
                given.notes, given.at);
     }
-    return expected;
 }
 
 /* From note to note, and from some places between. */
 static void note_stream(struct generate_source *source, const uint32_t *tokens, size_t length)
 {
     for (size_t from = 1; from < length;) {
-        const struct second_noted one = note_at(tokens[0], tokens, length, from);
+        const struct second_noted one = second_note(tokens[0], tokens, length, from);
+        note_at(tokens[0], tokens, length, from);
         if (one.number != 0 || one.notes == 0)
             break;
         from = (size_t)one.next;
     }
-    for (unsigned k = 0; k < 4; k++)
-        note_at(tokens[0], tokens, length, generate_below(source, length + 2));
+    visit_any_places(source, tokens, length, note_at);
 }
 
 static void note_one(void *context, const uint32_t *tokens, size_t length)
@@ -248,23 +270,10 @@ static size_t comments_stream(struct generate_source *source, unsigned version, 
 static void note_all(struct generate_source *source, unsigned rounds)
 {
     static uint32_t tokens[GENERATE_ROOM];
-    for (unsigned round = 0; round < rounds; round++) {
-        const unsigned version = round % GENERATE_VERSIONS;
-        const size_t length = generate_length(source, 200);
-        generate_valid(source, version, tokens, length);
-        note_stream(source, tokens, length);
-        const size_t damaged = generate_damaged(source, version, tokens, 200);
-        if (damaged > 0)
-            note_stream(source, tokens, damaged);
-        note_stream(source, tokens, comments_stream(source, version, tokens));
-    }
-    generate_valid(source, 0, tokens, GENERATE_MAX);
-    tokens[GENERATE_MAX] = 0;
-    note_at(tokens[0], tokens, GENERATE_MAX, 1);
-    note_at(tokens[0], tokens, GENERATE_MAX + 1, 1);
-    note_at(tokens[0], tokens, 5, SIZE_MAX);
-    note_at(0, tokens, 5, 1);
-    note_at(tokens[0], NULL, 0, 0);
+    visit_streams(source, rounds, note_stream);
+    for (unsigned round = 0; round < rounds; round++)
+        note_stream(source, tokens, comments_stream(source, round % GENERATE_VERSIONS, tokens));
+    visit_limits(source, note_at);
     generate_systematic(note_one, NULL);
 }
 

@@ -151,6 +151,31 @@ static void write_and_edit(void)
         printf("an edit that puts back what was there is JOINED\n");
 }
 
+/* All notes of the stream; how many there are. */
+__attribute__((noinline)) size_t measured_proved_notes(void)
+{
+    size_t count = 0;
+    for (size_t from = 1; from < length; count++) {
+        const struct santubeli_noted one = santubeli_note(tokens[0], tokens, length, from);
+        if (one.number != 0 || one.notes == 0)
+            break;
+        from = one.next;
+    }
+    return count;
+}
+
+__attribute__((noinline)) size_t measured_second_notes(void)
+{
+    size_t count = 0;
+    for (size_t from = 1; from < length; count++) {
+        const struct second_noted one = second_note(tokens[0], tokens, length, from);
+        if (one.number != 0 || one.notes == 0)
+            break;
+        from = (size_t)one.next;
+    }
+    return count;
+}
+
 static size_t run(void)
 {
     for (size_t k = 0; k < length; k++)
@@ -159,7 +184,8 @@ static size_t run(void)
     const struct santubeli_verdict a = measured_proved_tokens(), b = measured_proved_bytes();
     const struct second_verdict c = measured_second_tokens(), d = measured_second_bytes();
     const size_t e = measured_proved_reads(), f = measured_second_reads();
-    if (a.number != c.number || b.number != d.number || e != f)
+    const size_t g = measured_proved_notes(), h = measured_second_notes();
+    if (a.number != c.number || b.number != d.number || e != f || g != h)
         printf("the two differ\n");
     return length;
 }

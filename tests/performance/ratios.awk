@@ -8,6 +8,7 @@ END {
     pair("tokens", "proved_tokens", "second_tokens")
     pair("bytes", "proved_bytes", "second_bytes")
     pair("reading", "proved_reads", "second_reads")
+    pair("notes", "proved_notes", "second_notes")
     printf "\n"
     if (v["edit_front"] > 0) {
         printf "%-28s", ""
