@@ -976,21 +976,23 @@ static bool wined3d_is_lost(const struct comments *before, uint32_t opcode)
 
 static uint32_t shapes_of(uint32_t version, const struct second_record *record, const struct comments *before)
 {
+    enum { NOTED_SGN = 34, NOTED_IFC = 41, NOTED_BREAKC = 45, NOTED_TEXKILL = 65, NOTED_PHASE = 0xFFFD };
+    const bool is_vs_3_0 = version == 0xFFFE0300;
     uint32_t notes = 0;
     if (wined3d_is_lost(before, record->opcode))
-        notes |= 1;
+        notes |= SECOND_WINED3D_COMMENTS;
     if (record->opcode == SECOND_END && before->count > 0)
-        notes |= 2;
-    if (version == 0xFFFE0300 && record->opcode == 34)
-        notes |= 4;
+        notes |= SECOND_NINE_COMMENTS;
+    if (is_vs_3_0 && record->opcode == NOTED_SGN)
+        notes |= SECOND_WINED3D_SGN;
     /* TEXKILL has no source: its predicate is last as well as behind the destination */
-    if (record->predicated && record->opcode != 65)
-        notes |= 8;
-    /* IFC and BREAKC begin with a source */
-    if (version == 0xFFFE0300 && record->operands[0].relative && record->opcode != 41 && record->opcode != 45)
-        notes |= 16;
-    if (record->opcode == 0xFFFD && record->coissue)
-        notes |= 32;
+    if (record->predicated && record->opcode != NOTED_TEXKILL)
+        notes |= SECOND_MOJOSHADER_PREDICATE;
+    /* these two begin with a source that may be relative */
+    if (is_vs_3_0 && record->operands[0].relative && record->opcode != NOTED_IFC && record->opcode != NOTED_BREAKC)
+        notes |= SECOND_MOJOSHADER_DESTINATION;
+    if (record->opcode == NOTED_PHASE && record->coissue)
+        notes |= SECOND_MOJOSHADER_PHASE;
     return notes;
 }
 

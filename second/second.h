@@ -93,6 +93,15 @@ struct second_read second_read(uint32_t version, const uint32_t *tokens, size_t 
  * position 0; the sum of the shapes at `at` (0 at an END without one), where the
  * comments right before it begin, and the place behind it. Refusal: all else 0.
  */
+enum second_shape {
+    SECOND_WINED3D_COMMENTS = 1,
+    SECOND_NINE_COMMENTS = 2,
+    SECOND_WINED3D_SGN = 4,
+    SECOND_MOJOSHADER_PREDICATE = 8,
+    SECOND_MOJOSHADER_DESTINATION = 16,
+    SECOND_MOJOSHADER_PHASE = 32
+};
+
 struct second_noted {
     uint32_t number, position, notes;
     uint64_t at, comments, next;

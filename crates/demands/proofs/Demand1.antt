@@ -33,8 +33,8 @@ use Rattle.reader.specs.Reading.{unread, readJudged, readingAt, onVersion, read
 use Rattle.writer.specs.Writing.{ToldWriting, Writes, unnamed, unwritable, cramped, written}
 use Rattle.notes.specs.declared.Noted.{Noted}
 use Rattle.notes.specs.declared.Noted.the-variants.{Found, Refused as Unnoted}
-use Rattle.notes.specs.Noted.{onVersion as onNamed, noted}
-use Rattle.notes.proofs.Ends.{search-ends}
+use Rattle.notes.specs.Noted.{noted}
+use Rattle.notes.proofs.Ends.{search-ends, every-answer}
 use Rattle.notes.proofs.Places.{Lies, lying}
 use Rattle.edit.specs.declared.Edited.{Edited}
 use Rattle.edit.specs.declared.Edited.the-variants.{Joined, Accepted as Edited-in-full, Refused as Unedited}
@@ -112,20 +112,13 @@ module _ (tokens : List ℕ) (from : ℕ) where
   NotedFits (Found n) = Lies tokens from n
   NotedFits (Unnoted r) = Fits readNumbers (length tokens) r
 
-  noted-version : (name : Named) → NotedFits (onNamed name tokens from)
-  noted-version (Known v) =
+  note-fits : (version : ℕ) → NotedFits (noted version tokens from)
+  note-fits =
+      every-answer tokens from NotedFits (at-start readNumbers (length tokens) 1 refl) (at-start readNumbers (length tokens) 2 refl)
+      (λ v.
       search-ends v tokens from NotedFits (at-token readNumbers (length tokens) 5 (length tokens) (omega arith) refl refl)
       (λ p r some j. instruction-fits v (drop p tokens) r j (length tokens) (p + r .position) (refused-inside v tokens p r (omega arith) j))
-      (λ p size notes comments class ahead behind some j. lying tokens from v p size notes comments class ahead behind some j _ refl)
-  noted-version Unknown = at-start readNumbers (length tokens) 2 refl
-
-  noted-length : (name : Named) (few : Bool) → NotedFits (pick few (onNamed name tokens from) (Unnoted (refusal LENGTH 0)))
-  noted-length name true = noted-version name
-  noted-length name false = at-start readNumbers (length tokens) 1 refl
-
-  note-fits : (version : ℕ) → NotedFits (noted version tokens from)
-  unfolding noted
-  note-fits version = noted-length (named version) (leb (length tokens) mostTokens)
+      (λ p size notes comments class ahead behind some j. lying tokens from v p size notes comments class ahead behind some j _ refl))
 
   told-note : (x : Noted) → NotedFits x →
       Tells readNumbers (length tokens) (noteAnswerOf x .number) (noteAnswerOf x .position) × (noteAnswerOf x .number ≡ 0 → Ahead tokens from (noteAnswerOf x))

@@ -10,11 +10,14 @@ use borrow.Author.Tests.{leb-true, leb-false}
 use Rattle.paper.specs.Notation.{pick}
 use Rattle.paper.specs.Numbers.{refusal}
 use Rattle.paper.specs.Instruction.{judged}
-use Rattle.paper.specs.Stream.{cutOne, cutFrom}
+use Rattle.paper.specs.Versions.{named}
+use Rattle.paper.specs.Stream.{cutOne, cutFrom, mostTokens}
 use Rattle.paper.specs.declared.Version.{Version}
 use Rattle.paper.specs.declared.Class.{Class}
 use Rattle.paper.specs.declared.Refusal.{Refusal}
-use Rattle.paper.specs.declared.Reason.the-variants.{RunOut as RUN-OUT}
+use Rattle.paper.specs.declared.Named.{Named}
+use Rattle.paper.specs.declared.Named.the-variants.{Known, Unknown}
+use Rattle.paper.specs.declared.Reason.the-variants.{Length as LENGTH, Version as VERSION, RunOut as RUN-OUT}
 use Rattle.paper.specs.declared.Judged.{Judged}
 use Rattle.paper.specs.declared.Judged.the-variants.{Good, Refused as Unlawful}
 use Rattle.blocks.proofs.Cutting.{cut-none, cut-at, start-at}
@@ -23,7 +26,7 @@ use Rattle.notes.specs.declared.Before.the-variants.{Nothing, Comments, 
 use Rattle.notes.specs.declared.Noted.{Noted}
 use Rattle.notes.specs.declared.Noted.the-variants.{Found, Refused}
 use Rattle.notes.specs.NotedShapes.{notesOf, behindOf}
-use Rattle.notes.specs.Noted.{begin, note, ends, notedIn, notedFrom}
+use Rattle.notes.specs.Noted.{begin, note, ends, notedIn, notedFrom, onVersion, noted}
 
 -- comments begin before what they stand before
 begin-before : (before : Before) (comments at : ℕ) → comments ≤ at → begin before comments at ≤ at
@@ -80,3 +83,18 @@ module _
     pub search-ends : P (notedFrom v s from)
     unfolding notedFrom
     search-ends = from-place (length s) from (omega arith) (omega arith) Nothing from (omega arith)
+
+-- and before the search LENGTH and VERSION: what holds of these and of each version's search holds of every answer
+module _ (tokens : List ℕ) (from : ℕ) (P : Noted → Type 0) (too-long : P (Refused (refusal LENGTH 0))) (unknown : P (Refused (refusal VERSION 0)))
+    (searched : (v : Version) → P (notedFrom v tokens from)) where
+  by-version : (name : Named) → P (onVersion name tokens from)
+  by-version (Known v) = searched v
+  by-version Unknown = unknown
+
+  by-length : (name : Named) (few : Bool) → P (pick few (onVersion name tokens from) (Refused (refusal LENGTH 0)))
+  by-length name true = by-version name
+  by-length name false = too-long
+
+  pub every-answer : (version : ℕ) → P (noted version tokens from)
+  unfolding noted
+  every-answer version = by-length (named version) (leb (length tokens) mostTokens)

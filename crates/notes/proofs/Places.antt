@@ -1,21 +1,12 @@
 -- Where a note lies: ahead of the place that the search began at, its comments before it, and the next place behind it, inside the tokens.
 use mathlib.Core.Path.{_≡_, sym, ap, _∙_}
-use mathlib.Core.Bool.{Bool, true, false}
 use mathlib.Core.List.{List}
 use Prim.Native.Nat.{ℕ, suc, _+_, _≤_, _<_}
 use native.Mathlib.Omega.{arith}
-use lib.Dec.{leb}
 use lib.ListN.{length, drop, length-drop}
-use Rattle.paper.specs.Notation.{pick}
-use Rattle.paper.specs.Numbers.{refusal}
 use Rattle.paper.specs.Instruction.{judged}
-use Rattle.paper.specs.Versions.{named}
-use Rattle.paper.specs.Stream.{mostTokens}
 use Rattle.paper.specs.declared.Version.{Version}
-use Rattle.paper.specs.declared.Named.{Named}
-use Rattle.paper.specs.declared.Named.the-variants.{Known, Unknown}
 use Rattle.paper.specs.declared.Class.{Class}
-use Rattle.paper.specs.declared.Reason.the-variants.{Length as LENGTH}
 use Rattle.paper.specs.declared.Refusal.{Refusal}
 use Rattle.paper.specs.declared.Judged.the-variants.{Good}
 use Rattle.paper.proofs.OneToOne.{no-reason-zero}
@@ -23,8 +14,8 @@ use Rattle.paper.proofs.OwnTokens.{good-within}
 use Rattle.notes.specs.declared.Note.{Note}
 use Rattle.notes.specs.declared.Noted.{Noted}
 use Rattle.notes.specs.declared.Noted.the-variants.{Found, Refused}
-use Rattle.notes.specs.Noted.{note, onVersion, noted, toldNoted}
-use Rattle.notes.proofs.Ends.{search-ends}
+use Rattle.notes.specs.Noted.{note, noted, toldNoted}
+use Rattle.notes.proofs.Ends.{search-ends, every-answer}
 use Rattle.notes.proofs.OneAnswer.{same-noted}
 
 -- a refusal is no note
@@ -59,17 +50,8 @@ module _ (tokens : List ℕ) (from : ℕ) where
         inside = omega (arith, good-within size class v (drop p tokens) j, length-drop p tokens);
       }
 
-  by-version : (name : Named) → Told (onVersion name tokens from)
-  by-version (Known v) = search-ends v tokens from Told (refused _) (λ p r some j. refused _) (lying v)
-  by-version Unknown = refused _
-
-  by-length : (name : Named) (few : Bool) → Told (pick few (onVersion name tokens from) (Refused (refusal LENGTH 0)))
-  by-length name true = by-version name
-  by-length name false = refused _
-
   pub found-lies : (version : ℕ) (n : Note) → noted version tokens from ≡ Found n → Lies tokens from n
-  unfolding noted
-  found-lies version = by-length (named version) (leb (length tokens) mostTokens)
+  found-lies = every-answer tokens from Told (refused _) (refused _) (λ v. search-ends v tokens from Told (refused _) (λ p r some j. refused _) (lying v))
 
   -- of an answer that tells it
   pub told-lies : (version : ℕ) (answer : Noted) → toldNoted answer ≡ toldNoted (noted version tokens from) → (n : Note) → answer ≡ Found n → Lies tokens from n

@@ -58,6 +58,7 @@ fn print_notes(version: u32, tokens: &[u32]) -> bool {
     true
 }
 
+// As many tokens as the longest lawful stream has.
 fn print_accepted_with_notes(bytes: &[u8], instructions: usize) -> bool {
     let mut tokens = [0u32; 16384];
     let held = byte_checker::decode(bytes, &mut tokens);
