@@ -2,7 +2,7 @@
 use Prim.Native.Nat.{ℕ}
 use mathlib.Core.Path.{_≡_}
 use mathlib.Core.List.{List, [], _∷_}
-use Rattle.paper.specs.Numbers.{refusal}
+use Rattle.paper.specs.Numbers.{movedBy}
 use Rattle.paper.specs.Blocks.{Cut, out, wrong, then}
 use Rattle.paper.specs.Walk.{WalkState, step, Next, go, bad, finish}
 use Rattle.paper.specs.declared.Class.{Class}
@@ -29,18 +29,14 @@ unfoldable pub openAfter : WalkState → List Class → Next
 openAfter w [] = go w
 openAfter w (c ∷ cs) = onwards (step w c) cs (λ next. openAfter next cs)
 
--- a refusal with its position moved
-abbrev pub movedRefusal : (ℕ → ℕ) → Refusal → Refusal
-movedRefusal f r = refusal (r .reason) (f (r .position))
-
 -- a verdict with its positions moved; a yes gives another count
 abbrev pub moved : ℕ → (ℕ → ℕ) → Verdict → Verdict
 moved count f (Accepted n) = Accepted count
-moved count f (Refused r) = Refused (movedRefusal f r)
+moved count f (Refused r) = Refused (movedBy f r)
 
 unfoldable pub movedCut : (ℕ → ℕ) → Cut → Cut
 movedCut f (out p) = out (f p)
-movedCut f (wrong p r) = wrong (f p) (movedRefusal f r)
+movedCut f (wrong p r) = wrong (f p) (movedBy f r)
 movedCut f (then c p a) = then c (f p) (movedCut f a)
 
 -- the position that a cut begins at

@@ -75,7 +75,11 @@ pub fn decode(bytes: &[u8], room: &mut [u32]) -> usize
 fn refused(reason: Reason, position: usize) -> Verdict
     ensures { λ r. ⌜ r ≡ Verdict.Refused (refusal reason position) ⌝ }
 {
-    Verdict::Refused(Refusal { reason, position })
+    Verdict::Refused(Refusal {
+        reason,
+        position,
+        detail: 0,
+    })
 }
 
 // A part of a stream, as a window holds it: so many tokens from a position on. The instructions that begin before `until` have all

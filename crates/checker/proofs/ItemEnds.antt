@@ -8,7 +8,7 @@ use native.Mathlib.Omega.{arith}
 use lib.Dec.{eqb, ltb}
 use lib.ListN.{length, drop, length-drop, drop-of-length-le}
 use borrow.Author.Tests.{lt-ltb, le-ltb, ltb-true, ltb-false, ne-eqb}
-use Rattle.paper.specs.Numbers.{refusal, toldInstruction}
+use Rattle.paper.specs.Numbers.{refusal, movedBy, toldInstruction}
 use Rattle.paper.specs.Instruction.{judged}
 use Rattle.paper.specs.Blocks.{then, isZero, mayStand, mostOpen}
 use Rattle.paper.specs.Stream.{cutFrom}
@@ -39,7 +39,7 @@ use Rattle.checker.specs.declared.ItemEnd.{ItemEnd}
 use Rattle.checker.specs.declared.ItemEnd.the-variants.{Passed, Closer as Closed, Refused}
 use Rattle.checker.specs.Ends.{itemAt, StartsAt, Onward, ItemIs, BlockIs, tallyOf}
 use Rattle.paper.proofs.OwnTokens.{good-inside as ends-inside}
-use Rattle.paper.proofs.OneInstruction.{Near, Within, judged-near}
+use Rattle.paper.proofs.OneInstruction.{Near, Within, judged-near, judged-bit}
 
 pub zero-test : (n : ℕ) → eqb n 0 ≡ isZero n
 zero-test zero = refl
@@ -75,15 +75,15 @@ onward g h =
 
 -- "no token where an instruction must start" is RUN-OUT at the token count
 out-is : (at : ℕ) (r : Refusal) → Wrong (refusal RUN-OUT 0) ≡ Wrong r →
-    refused (refusal RUN-OUT at) ≡ refused (refusal (r .reason) (at + r .position))
+    refused (refusal RUN-OUT at) ≡ refused (movedBy (λ p. at + p) r)
 out-is at r e =
     let is : refusal RUN-OUT 0 ≡ r = cc in
-    ap (λ n. refused (refusal RUN-OUT n)) (sym (add-zero at)) ∙ ap (λ (x : Refusal). refused (refusal (x .reason) (at + x .position))) is
+    ap (λ n. refused (refusal RUN-OUT n)) (sym (add-zero at)) ∙ ap (λ (x : Refusal). refused (movedBy (λ p. at + p) x)) is
 
 module _ (v : Version) {s : List ℕ} {depth at m told : ℕ} (begun : StartsAt s depth at m × (told ≡ toldAt v s 0 at))
     {j : Judged} (e : toldInstruction j ≡ toldInstruction (judgedFrom told)) where
   judged-at : j ≡ judged v (drop at s)
-  judged-at = same-instruction _ _ e ∙ ap judgedFrom (begun .1 ∙ told-whole v s at) ∙ judged-back (judged v (drop at s))
+  judged-at = same-instruction _ _ e ∙ ap judgedFrom (begun .1 ∙ told-whole v s at) ∙ judged-back (length (drop at s)) (judged v (drop at s)) (judged-bit v (drop at s))
 
   -- an instruction that is good by itself
   module _ {size : ℕ} {class : Class} (f : j ≡ Good size class) where
@@ -175,7 +175,7 @@ module _ (v : Version) {s : List ℕ} {depth at m told : ℕ} (begun : StartsAt 
         omega (arith, begun .0 .starts, length-drop at s)
 
     wrong-cut : (inLoop phased test : Bool) → ltb at (length s) ≡ test →
-        itemAt depth inLoop phased (cutFrom v s at) ≡ refused (refusal (r .reason) (at + r .position))
+        itemAt depth inLoop phased (cutFrom v s at) ≡ refused (movedBy (λ p. at + p) r)
     unfolding judged
     wrong-cut inLoop phased true h = ap (itemAt depth inLoop phased) (cut-at v s at (ltb-true at (length s) h)) ∙ rw (← judged-at, f) refl
     wrong-cut inLoop phased false h =
@@ -183,5 +183,5 @@ module _ (v : Version) {s : List ℕ} {depth at m told : ℕ} (begun : StartsAt 
         ap (itemAt depth inLoop phased) (cut-none v s at (ltb-false at (length s) h))
         ∙ out-is at r (ap (judged v) (sym none) ∙ sym judged-at ∙ f)
 
-    pub item-wrong : {inLoop phased : Bool} {k : ItemEnd} → k ≡ Refused (refusal (r .reason) (at + r .position)) → ItemIs v s depth inLoop phased at m k
+    pub item-wrong : {inLoop phased : Bool} {k : ItemEnd} → k ≡ Refused (movedBy (λ p. at + p) r) → ItemIs v s depth inLoop phased at m k
     item-wrong {inLoop} {phased} h = rw h (record { is = sym (wrong-cut inLoop phased (ltb at (length s)) refl); within = tt })

@@ -3,7 +3,7 @@ ghost use mathlib.Core.Path.{_≡_};
 ghost use mathlib.Core.Bool.{false};
 ghost use Prim.Native.Nat.{_+_, _≤_};
 ghost use lib.ListN.{length};
-ghost use Rattle.paper.specs.Numbers.{refusal, told};
+ghost use Rattle.paper.specs.Numbers.{refusal, refusalAtBit, told};
 ghost use Rattle.paper.specs.Blocks.{mayStand, loopsIn, closerOf};
 ghost use Rattle.checker.specs.Closers.{closerNumber};
 ghost use Rattle.paper.specs.Stream.{walked, checked};
@@ -48,16 +48,24 @@ enum ItemEnd {
     Refused(Refusal),
 }
 
-fn refused_item(reason: Reason, position: usize) -> ItemEnd
-    ensures { λ r. ⌜ r ≡ ItemEnd.Refused (refusal reason position) ⌝ }
+fn refused_item(reason: Reason, position: usize, detail: usize) -> ItemEnd
+    ensures { λ r. ⌜ r ≡ ItemEnd.Refused (refusalAtBit reason position detail) ⌝ }
 {
-    ItemEnd::Refused(Refusal { reason, position })
+    ItemEnd::Refused(Refusal {
+        reason,
+        position,
+        detail,
+    })
 }
 
 fn refused(reason: Reason, position: usize) -> Verdict
     ensures { λ r. ⌜ r ≡ Verdict.Refused (refusal reason position) ⌝ }
 {
-    Verdict::Refused(Refusal { reason, position })
+    Verdict::Refused(Refusal {
+        reason,
+        position,
+        detail: 0,
+    })
 }
 
 fn may_stand(single: Single, depth: usize, in_loop: bool, phased: bool) -> bool
@@ -130,7 +138,7 @@ fn close(end: BodyEnd, own: u32) -> ItemEnd
             if closer_number(closer) == own {
                 return ItemEnd::Passed(next, count + 1);
             }
-            refused_item(Reason::Block, position)
+            refused_item(Reason::Block, position, 0)
         }
         BodyEnd::Broken(refusal) => ItemEnd::Refused(refusal),
     }
@@ -206,20 +214,20 @@ fn item(
                     if may_stand(single, depth, in_loop, phased) {
                         return ItemEnd::Passed(next, count + tally(single));
                     }
-                    refused_item(Reason::Block, at)
+                    refused_item(Reason::Block, at, 0)
                 }
                 Class::Opens(opener) => {
                     if depth < MOST_OPEN {
                         return block(version, tokens, next, count + 1, opener, depth, in_loop);
                     }
-                    refused_item(Reason::Depth, at)
+                    refused_item(Reason::Depth, at, 0)
                 }
                 Class::Closes(closer) => ItemEnd::Closer(closer, next),
             }
         }
         Judged::Refused(refusal) => {
             let reason = refusal.reason;
-            refused_item(reason, at + refusal.position)
+            refused_item(reason, at + refusal.position, refusal.detail)
         }
     }
 }

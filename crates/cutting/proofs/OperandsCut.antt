@@ -9,14 +9,13 @@ use lib.Seq.{take-length}
 use borrow.Author.Tests.{eq-eqb}
 use Rattle.paper.specs.Notation.{pick}
 use Rattle.paper.specs.InstructionToken.{opcodeOf, commentOpcode, isPredicated, withPredicate}
-use Rattle.paper.specs.OperandTokens.{tokenAt, bringsRelative, typeOf, leftOver, refusedOperands}
-use Rattle.paper.specs.Dcl.{declaration, declaredAt, usageLaid, onDeclared}
+use Rattle.paper.specs.OperandTokens.{tokenAt, bringsRelative, typeOf, leftOver}
+use Rattle.paper.specs.Dcl.{declaration, declaredAt, usageAt, onDeclared}
 use Rattle.paper.specs.Instruction.{claimed, Head, tokenHead, onToken, relativeToken, operand, onTaken, operands, claim, onClaimed}
 use Rattle.paper.specs.OpcodeTable.{DCL}
 use Rattle.paper.proofs.Bools.{apart}
 use Rattle.paper.proofs.FirstToken.{other-not-end, Says, is-broken, is-comment, is-end, is-listed, says}
 use Rattle.paper.specs.declared.Version.{Version}
-use Rattle.paper.specs.declared.Reason.the-variants.{Operand as OPERAND}
 use Rattle.paper.specs.declared.Token.{Token}
 use Rattle.paper.specs.declared.Token.the-variants.{Good as good, Bad as bad}
 use Rattle.paper.specs.declared.Taken.the-variants.{Took as took}
@@ -38,13 +37,13 @@ module _ (v : Version) (ps : List Place) (offset token : ℕ) (other : List ℕ)
       onTaken (onToken answer (offset + 1) (took 2)) (λ n. operands v ps (offset + n) (drop n (token ∷ next ∷ rest))) ≡ Fit →
       placesTake ps (rest ++ other) ≡ length rest
   on-relative next rest good e = behind (offset + 2) rest e
-  on-relative next rest (bad reason) e = apart (cc)
+  on-relative next rest (bad reason bit) e = apart (cc)
 
   on-operand : (answer : Token) (brings : Bool) (rest : List ℕ) →
       onTaken (onToken answer offset (pick brings (relativeToken v (offset + 1) rest) (took 1))) (λ n. operands v ps (offset + n) (drop n (token ∷ rest)))
       ≡ Fit →
       pick brings (suc (suc (placesTake ps (drop 1 (rest ++ other))))) (suc (placesTake ps (rest ++ other))) ≡ suc (length rest)
-  on-operand (bad reason) brings rest e = apart (cc)
+  on-operand (bad reason bit) brings rest e = apart (cc)
   on-operand good false rest e = ap suc (behind (offset + 1) rest e)
   on-operand good true [] e = apart (cc)
   on-operand good true (next ∷ rest) e = ap (λ (n : ℕ). suc (suc n)) (on-relative next rest (tokenAt v relative next) e)
@@ -60,18 +59,17 @@ places-take v (place ∷ ps) offset (token ∷ rest) other e =
     on-operand v ps offset token other (λ o tokens. places-take v ps o tokens other) (tokenAt v place token) (bringsRelative place token) rest e
 
 -- a lawful DCL has two tokens behind its first
-
-two : (answer : Token) (laid : Bool) (rest : List ℕ) → onDeclared answer (pick laid (leftOver rest) (refusedOperands OPERAND 1)) ≡ Fit → length rest ≡ 0
-two (bad reason) laid rest e = apart (cc)
-two good false rest e = apart (cc)
-two good true [] e = refl
-two good true (token ∷ rest) e = apart (cc)
+two : (destination used : Token) (rest : List ℕ) → onDeclared destination 2 (onDeclared used 1 (leftOver rest)) ≡ Fit → length rest ≡ 0
+two (bad reason bit) used rest e = apart (cc)
+two good (bad reason bit) rest e = apart (cc)
+two good good [] e = refl
+two good good (token ∷ rest) e = apart (cc)
 
 declared-two : (v : Version) (tokens : List ℕ) → declaration v tokens ≡ Fit → 2 ≡ length tokens
 unfolding declaration
 declared-two v [] e = apart (cc)
 declared-two v (u ∷ []) e = apart (cc)
-declared-two v (u ∷ (d ∷ rest)) e = ap (λ (n : ℕ). suc (suc n)) (sym (two (declaredAt v d) (usageLaid v (typeOf d) u) rest e))
+declared-two v (u ∷ (d ∷ rest)) e = ap (λ (n : ℕ). suc (suc n)) (sym (two (declaredAt v d) (usageAt v (typeOf d) u) rest e))
 
 -- what the operands of a lawful instruction take is its tokens, whatever stands behind them
 module _ (v : Version) (first : ℕ) (rest other : List ℕ) (class : Class) where

@@ -8,15 +8,16 @@ use lib.Dec.{eqb}
 use lib.ListN.{length, getD}
 use borrow.Author.Tests.{ne-eqb}
 use Rattle.paper.specs.Notation.{pick, among}
-use Rattle.paper.specs.Numbers.{numberOf, toldToken}
+use Rattle.paper.specs.Numbers.{faultOf, toldToken}
 use Rattle.paper.specs.OperandTokens.{typeOf, refusedOperands, leftOver}
-use Rattle.paper.specs.Dcl.{samplerForm, plainForm, usageForm, samplerTypes, plainTypes, usageTypes, isDeclared, formLaid, onDeclared, declaredAt, usageLaid, declaration}
+use Rattle.paper.specs.Dcl.{samplerForm, plainForm, usageForm, samplerTypes, plainTypes, usageTypes, isDeclared, formLaid, onDeclared, declaredAt, usageAt, declaration}
 use Rattle.versions.specs.Rows.{formOf}
+use Rattle.versions.proofs.Forms.{form-by}
 use Rattle.paper.specs.declared.Version.{Version}
-use Rattle.paper.specs.declared.Reason.the-variants.{Size as SIZE, Operand as OPERAND}
+use Rattle.paper.specs.declared.Reason.the-variants.{Size as SIZE}
 use Rattle.paper.specs.declared.Token.{Token}
 use Rattle.paper.specs.declared.Token.the-variants.{Good, Bad}
-use Rattle.paper.proofs.OneToOne.{no-reason-zero}
+use Rattle.paper.proofs.OneToOne.{no-fault-zero}
 use Rattle.told.specs.Numbered.{operandsNumber}
 use Rattle.dcl.specs.Concluded.{concluded}
 
@@ -30,21 +31,20 @@ no-destination v (u ∷ (d ∷ rest)) h = absurd (omega arith)
 more-than-two : (n : ℕ) → eqb (suc (suc (suc n))) 2 ≡ false
 more-than-two n = ne-eqb (suc (suc (suc n))) 2 (λ e. omega arith)
 
-by-destination : (t : Token) (laid : Bool) (rest : List ℕ) →
-    operandsNumber (onDeclared t (pick laid (leftOver rest) (refusedOperands OPERAND 1)))
-    ≡ concluded (toldToken t) laid (eqb (suc (suc (length rest))) 2)
-by-destination Good true [] = refl
-by-destination Good true (token ∷ rest) = rw (more-than-two (length rest)) refl
-by-destination Good false rest = refl
-by-destination (Bad reason) laid rest = rw (ne-eqb (numberOf reason) 0 (λ z. no-reason-zero reason (sym z))) refl
+by-destination : (t u : Token) (rest : List ℕ) →
+    operandsNumber (onDeclared t 2 (onDeclared u 1 (leftOver rest))) ≡ concluded (toldToken t) (toldToken u) (eqb (suc (suc (length rest))) 2)
+by-destination Good Good [] = refl
+by-destination Good Good (token ∷ rest) = rw (more-than-two (length rest)) refl
+by-destination Good (Bad reason bit) rest = rw (ne-eqb (faultOf reason bit) 0 (λ z. no-fault-zero reason bit (sym z))) refl
+by-destination (Bad reason bit) u rest = rw (ne-eqb (faultOf reason bit) 0 (λ z. no-fault-zero reason bit (sym z))) refl
 
 pub with-destination : (v : Version) (behind : List ℕ) → 2 ≤ length behind →
     operandsNumber (declaration v behind) ≡
-    concluded (toldToken (declaredAt v (getD behind 1 0))) (usageLaid v (typeOf (getD behind 1 0)) (getD behind 0 0)) (eqb (length behind) 2)
+    concluded (toldToken (declaredAt v (getD behind 1 0))) (toldToken (usageAt v (typeOf (getD behind 1 0)) (getD behind 0 0))) (eqb (length behind) 2)
 unfolding declaration
 with-destination v [] h = absurd (omega arith)
 with-destination v (u ∷ []) h = absurd (omega arith)
-with-destination v (u ∷ (d ∷ rest)) h = by-destination (declaredAt v d) (usageLaid v (typeOf d) u) rest
+with-destination v (u ∷ (d ∷ rest)) h = by-destination (declaredAt v d) (usageAt v (typeOf d) u) rest
 
 -- the forms by their numbers
 module _ (v : Version) (type : ℕ) where
@@ -57,16 +57,6 @@ module _ (v : Version) (type : ℕ) where
   pub form-declared : not (eqb (formOf v type) 0) ≡ isDeclared v type
   form-declared = declared-by (among type (samplerTypes v)) (among type (plainTypes v)) (among type (usageTypes v))
 
-  form-by : (sampler plain used a b c : Bool) →
-      pick (eqb (pick sampler 1 (pick plain 2 (pick used 3 0))) 1) a (pick (eqb (pick sampler 1 (pick plain 2 (pick used 3 0))) 2) b c)
-      ≡ pick sampler a (pick plain b c)
-  form-by true plain used a b c = refl
-  form-by false true used a b c = refl
-  form-by false false true a b c = refl
-  form-by false false false a b c = refl
-
   pub form-laid : (token : ℕ) → formLaid v type token ≡
       pick (eqb (formOf v type) 1) (samplerForm token) (pick (eqb (formOf v type) 2) (plainForm token) (usageForm token))
-  form-laid token =
-      sym
-      (form-by (among type (samplerTypes v)) (among type (plainTypes v)) (among type (usageTypes v)) (samplerForm token) (plainForm token) (usageForm token))
+  form-laid token = form-by v type (samplerForm token) (plainForm token) (usageForm token)

@@ -1,8 +1,8 @@
-// The operands of DCL: document 01, "DCL", with document 02's Q-6.
+// The operands of DCL: document 01, "DCL", with document 02's Q-3 and Q-6.
 ghost use mathlib.Core.Path.{_≡_};
 ghost use Rattle.paper.specs.Numbers.{toldToken};
 ghost use Rattle.paper.specs.OperandTokens.{typeOf};
-ghost use Rattle.paper.specs.Dcl.{samplerForm, usageForm, formLaid, isDeclared, positionOrFace, faceLaid, declaredAt, usageLaid, declaration};
+ghost use Rattle.paper.specs.Dcl.{samplerForm, usageForm, formLaid, isDeclared, positionOrFace, faceLaid, declaredAt, usageLaid, usageAt, declaration};
 ghost use Rattle.told.specs.Numbered.{operandsNumber};
 ghost use Rattle.dcl.specs.Concluded.{concluded};
 use paper::Version;
@@ -73,24 +73,39 @@ fn declared_at(version: Version, destination: u32) -> u32
 {
     let laid = layout::typed_destination_laid(version, destination);
     let face = face_laid(version, destination);
-    let typed = is_declared(version, destination);
-    layout::layout_then_type(laid & face, typed)
+    if laid & face {
+        if is_declared(version, destination) {
+            return 0;
+        }
+        return paper::REGISTER;
+    }
+    faults::declared_fault(version, destination)
+}
+
+// What is told of U.
+fn usage_at(version: Version, destination: u32, usage: u32) -> u32
+    ensures { λ r. ⌜ r ≡ toldToken (usageAt version (typeOf destination) usage) ⌝ }
+{
+    if usage_laid(version, destination, usage) {
+        return 0;
+    }
+    faults::usage_fault(version, destination, usage)
 }
 
 // The destination is judged first, then U, then what is left over.
-fn conclude(destination: u32, usage_laid: bool, no_more: bool) -> u64
-    ensures { λ r. ⌜ r ≡ concluded destination «usage_laid» «no_more» ⌝ }
+fn conclude(destination: u32, usage: u32, no_more: bool) -> u64
+    ensures { λ r. ⌜ r ≡ concluded destination usage «no_more» ⌝ }
 {
     if destination != 0 {
         return told::refused(destination, 2);
     }
-    if usage_laid {
-        if no_more {
-            return told::FIT;
-        }
-        return told::refused(paper::SIZE, 0);
+    if usage != 0 {
+        return told::refused(usage, 1);
     }
-    told::refused(paper::OPERAND, 1)
+    if no_more {
+        return told::FIT;
+    }
+    told::refused(paper::SIZE, 0)
 }
 
 // What is told of the tokens behind a DCL's instruction token: U, the destination, and no more.
@@ -102,7 +117,7 @@ pub fn judge_declaration(version: Version, behind: &[u32]) -> u64
     }
     let usage = behind[0];
     let destination = behind[1];
-    let judged = declared_at(version, destination);
-    let laid = usage_laid(version, destination, usage);
-    conclude(judged, laid, behind.len() == 2)
+    let declared = declared_at(version, destination);
+    let used = usage_at(version, destination, usage);
+    conclude(declared, used, behind.len() == 2)
 }

@@ -45,17 +45,17 @@ use Rattle.paper.proofs.Bools.{apart}
 use Rattle.paper.proofs.OneToOne.{no-reason-zero}
 use Rattle.santubeli.specs.declared.Answer.{Answer}
 use Rattle.santubeli.specs.Entries.{answerOf, readAnswer, noteAnswerOf, editAnswerOf}
-use Rattle.demands.specs.Demand1.{readNumbers, checkNumbers, writeNumbers, editNumbers, Numbered, Tells, accepts, refuses, KeptUnlessYes, Ahead, Demand1}
+use Rattle.demands.specs.Demand1.{readNumbers, checkNumbers, writeNumbers, editNumbers, detailFits, Numbered, Tells, accepts, refuses, KeptUnlessYes, Ahead, Demand1}
 use Rattle.demands.proofs.NumbersAndPositions.{Fits, at-start, at-token, widened, instruction-fits, refused-inside, check-fits}
 
 -- a check: its answer tells what its verdict is
 checked : (tokens shown : ℕ) (x : Verdict) → ((r : Refusal) → x ≡ Refused r → Fits checkNumbers tokens r) →
-    (answer : Answer) → answer ≡ answerOf shown x → Tells checkNumbers tokens (answer .number) (answer .position)
+    (answer : Answer) → answer ≡ answerOf shown x → Tells checkNumbers tokens (answer .number) (answer .position) (answer .detail)
 checked tokens shown x h answer e =
-    subst (λ (a : Answer). Tells checkNumbers tokens (a .number) (a .position)) (sym e) (this x h)
+    subst (λ (a : Answer). Tells checkNumbers tokens (a .number) (a .position) (a .detail)) (sym e) (this x h)
   where
     this : (y : Verdict) → ((r : Refusal) → y ≡ Refused r → Fits checkNumbers tokens r) →
-        Tells checkNumbers tokens (answerOf shown y .number) (answerOf shown y .position)
+        Tells checkNumbers tokens (answerOf shown y .number) (answerOf shown y .position) (answerOf shown y .detail)
     this (Accepted n) j = accepts
     this (Refused r) j = refuses (j r refl)
 
@@ -69,7 +69,7 @@ bytes-fit bytes r e = this (eqb (length bytes % 4) 0) refl e
     this true w f =
         let count = tokens-length bytes (length bytes / 4) (quarter bytes (eqb-true (length bytes % 4) 0 w)) in
         rw count at (check-fits (tokensIn bytes) r f)
-    this false w f = let g : refusal LENGTH 0 ≡ r = cc in subst (Fits checkNumbers (length bytes / 4)) g (at-start checkNumbers (length bytes / 4) 1 refl)
+    this false w f = let g : refusal LENGTH 0 ≡ r = cc in subst (Fits checkNumbers (length bytes / 4)) g (at-start checkNumbers (length bytes / 4) 1 refl refl)
 
 -- the reader
 module _ (tokens : List ℕ) (at : ℕ) where
@@ -86,19 +86,19 @@ module _ (tokens : List ℕ) (at : ℕ) where
   by-place : (v : Version) (inside : Bool) → ltb at (length tokens) ≡ inside →
       AnswerFits (pick inside (readJudged (judged v (drop at tokens)) at (recordOf v (drop at tokens))) (unread RUN-OUT (length tokens)) .answer)
   by-place v true l = by-judged v (recordOf v (drop at tokens)) (omega (arith, ltb-true at (length tokens) l)) (judged v (drop at tokens)) refl
-  by-place v false l = at-token readNumbers (length tokens) 5 (length tokens) (omega arith) refl refl
+  by-place v false l = at-token readNumbers (length tokens) 5 (length tokens) (omega arith) refl refl refl
 
   by-version : (name : Named) → AnswerFits (onVersion name tokens at .answer)
   unfolding readingAt
   by-version (Known v) = by-place v (ltb at (length tokens)) refl
-  by-version Unknown = at-start readNumbers (length tokens) 2 refl
+  by-version Unknown = at-start readNumbers (length tokens) 2 refl refl
 
   by-length : (name : Named) (few : Bool) → AnswerFits (pick few (onVersion name tokens at) (unread LENGTH 0) .answer)
   by-length name true = by-version name
-  by-length name false = at-start readNumbers (length tokens) 1 refl
+  by-length name false = at-start readNumbers (length tokens) 1 refl refl
 
   told-answer : (instruction : Record) (x : Answered) → AnswerFits x →
-      Tells readNumbers (length tokens) (readAnswer x instruction .number) (readAnswer x instruction .position)
+      Tells readNumbers (length tokens) (readAnswer x instruction .number) (readAnswer x instruction .position) (readAnswer x instruction .detail)
   told-answer instruction (Got next) h = accepts
   told-answer instruction (Unread r) h = refuses h
 
@@ -114,23 +114,23 @@ module _ (tokens : List ℕ) (from : ℕ) where
 
   note-fits : (version : ℕ) → NotedFits (noted version tokens from)
   note-fits =
-      every-answer tokens from NotedFits (at-start readNumbers (length tokens) 1 refl) (at-start readNumbers (length tokens) 2 refl)
+      every-answer tokens from NotedFits (at-start readNumbers (length tokens) 1 refl refl) (at-start readNumbers (length tokens) 2 refl refl)
       (λ v.
-      search-ends v tokens from NotedFits (at-token readNumbers (length tokens) 5 (length tokens) (omega arith) refl refl)
+      search-ends v tokens from NotedFits (at-token readNumbers (length tokens) 5 (length tokens) (omega arith) refl refl refl)
       (λ p r some j. instruction-fits v (drop p tokens) r j (length tokens) (p + r .position) (refused-inside v tokens p r (omega arith) j))
       (λ p size notes comments class ahead behind some j. lying tokens from v p size notes comments class ahead behind some j _ refl))
 
   told-note : (x : Noted) → NotedFits x →
-      Tells readNumbers (length tokens) (noteAnswerOf x .number) (noteAnswerOf x .position) × (noteAnswerOf x .number ≡ 0 → Ahead tokens from (noteAnswerOf x))
+      Tells readNumbers (length tokens) (noteAnswerOf x .number) (noteAnswerOf x .position) (noteAnswerOf x .detail) × (noteAnswerOf x .number ≡ 0 → Ahead tokens from (noteAnswerOf x))
   told-note (Found n) h = (accepts, λ yes. record { comes = h .comes; begins = h .begins; ends = h .ends; inside = h .inside })
   told-note (Unnoted r) h = (refuses h, λ yes. absurd (no-reason-zero (r .reason) (sym yes)))
 
 -- the writer
 told-writing : {version : ℕ} {instruction : Record} {body buffer : List ℕ} {at : ℕ} {told : ToldWriting} {after : List ℕ} →
-    Writes version instruction body buffer at told after → Tells writeNumbers 0 (told .number) (told .position) × KeptUnlessYes (told .number) buffer after
-told-writing (unnamed n) = (refuses (at-start writeNumbers 0 2 refl), λ no. refl)
-told-writing (unwritable n u) = (refuses (at-start writeNumbers 0 14 refl), λ no. refl)
-told-writing (cramped n w few) = (refuses (at-start writeNumbers 0 13 refl), λ no. refl)
+    Writes version instruction body buffer at told after → Tells writeNumbers 0 (told .number) (told .position) 0 × KeptUnlessYes (told .number) buffer after
+told-writing (unnamed n) = (refuses (at-start writeNumbers 0 2 refl refl), λ no. refl)
+told-writing (unwritable n u) = (refuses (at-start writeNumbers 0 14 refl refl), λ no. refl)
+told-writing (cramped n w few) = (refuses (at-start writeNumbers 0 13 refl refl), λ no. refl)
 told-writing (written n w fits) = (accepts, λ no. absurd (no refl))
 
 -- the edit
@@ -150,8 +150,8 @@ module _ (r : Refusal) where
     abbrev new : List ℕ
     new = splice old i j run
 
-    start-at : (number : ℕ) → among number editNumbers ≡ true → Numbered editNumbers (length new) number 0
-    start-at number t = at-start editNumbers (length new) number t
+    start-at : (number : ℕ) → among number editNumbers ≡ true → detailFits number 0 ≡ true → Numbered editNumbers (length new) number 0 0
+    start-at number t d = at-start editNumbers (length new) number t d
 
     by-walk : (v : Version) → Allowed room-of old i j run v → spliced v old i j run ≡ Unedited r → Fits editNumbers (length new) r
     by-walk v a e =
@@ -164,27 +164,27 @@ module _ (r : Refusal) where
         ≡ Unedited r → Fits editNumbers (length new) r
     in-version (Known v) known laid e =
         tested (length new) (placed v old i j) (pick (fits room-of (newLength (length old) i j (length run))) (spliced v old i j run) (editRefused ROOM)) PLACE
-        (start-at 12 refl)
+        (start-at 12 refl refl)
         (λ place.
-        tested (length new) (fits room-of (newLength (length old) i j (length run))) (spliced v old i j run) ROOM (start-at 13 refl)
+        tested (length new) (fits room-of (newLength (length old) i j (length run))) (spliced v old i j run) ROOM (start-at 13 refl refl)
         (λ fit. by-walk v (record { laid = laid; known = known; place = place; fit = fit }))) e
-    in-version Unknown known laid e = let f : refusal VERSION 0 ≡ r = cc in subst (Fits editNumbers (length new)) f (start-at 2 refl)
+    in-version Unknown known laid e = let f : refusal VERSION 0 ≡ r = cc in subst (Fits editNumbers (length new)) f (start-at 2 refl refl)
 
     edit-fits : edited room-of old i j run ≡ Unedited r → Fits editNumbers (length new) r
     unfolding edited
     edit-fits e =
-        tested (length new) (lengthLaid (length old)) _ LENGTH (start-at 1 refl) (λ laid. in-version (named (getD old 0 0)) refl laid) e
+        tested (length new) (lengthLaid (length old)) _ LENGTH (start-at 1 refl refl) (λ laid. in-version (named (getD old 0 0)) refl laid) e
 
 module _ (buffer : List ℕ) (n i j : ℕ) (run : List ℕ) where
   refused-fits : (r : Refusal) → editedIn buffer n i j run ≡ Unedited r → Fits editNumbers (length (splice (take n buffer) i j run)) r
   unfolding editedIn
   refused-fits r e =
       let tokens = length (splice (take n buffer) i j run) in
-      tested r tokens (leb n (length buffer)) (edited (length buffer) (take n buffer) i j run) LENGTH (at-start editNumbers tokens 1 refl)
+      tested r tokens (leb n (length buffer)) (edited (length buffer) (take n buffer) i j run) LENGTH (at-start editNumbers tokens 1 refl refl)
       (λ held. edit-fits r (length buffer) (take n buffer) i j run) e
 
   told-edit : (x : Edited) → editedIn buffer n i j run ≡ x →
-      Tells editNumbers (length (splice (take n buffer) i j run)) (editAnswerOf x .number) (editAnswerOf x .position)
+      Tells editNumbers (length (splice (take n buffer) i j run)) (editAnswerOf x .number) (editAnswerOf x .position) (editAnswerOf x .detail)
       × KeptUnlessYes (editAnswerOf x .number) buffer (editedBuffer buffer n i j run)
   told-edit (Joined k) e = (accepts, λ no. absurd (no refl))
   told-edit (Edited-in-full k) e = (accepts, λ no. absurd (no refl))

@@ -1,11 +1,11 @@
 -- BLOCK and DEPTH, from the verdict of a stream to the grammar and back.
 use Prim.Native.Nat.{ℕ, suc, _+_, _≤_, _<_}
 use mathlib.Core.Path.{_≡_, refl, ap, sym, _∙_}
-use mathlib.Core.Bool.{Bool, true, false}
+use mathlib.Core.Bool.{Bool, true, false, not}
 use mathlib.Core.List.{List, [], _∷_, _++_}
 use native.Mathlib.Omega.{arith}
 use lib.ListN.{length, drop, getD}
-use Rattle.paper.specs.Notation.{pick}
+use Rattle.paper.specs.Notation.{pick, among}
 use Rattle.paper.specs.Numbers.{numberOf, refusal}
 use Rattle.paper.specs.Versions.{named}
 use Rattle.paper.specs.Instruction.{judged}
@@ -26,7 +26,7 @@ use Rattle.blocks.specs.Reach.{openAfter}
 use Rattle.blocks.proofs.Cutting.{cut-at}
 use Rattle.blocks.proofs.Refused.{open-append, begins-open, begins-none, step-reason}
 use Rattle.walk.proofs.OpenBlocks.{step-few}
-use Rattle.paper.proofs.Bools.{apart}
+use Rattle.paper.proofs.Bools.{apart, never}
 use Rattle.paper.proofs.StreamVerdict.{verdict-walked}
 use Rattle.edit.proofs.Standing.{Comes, stays, passes}
 use Rattle.demands.specs.Nesting.{GoodRow, standing, next, opens, BreaksAt, blocksOpened, blocksClosed, Nesting}
@@ -89,13 +89,16 @@ same-opener false true e = apart (cc)
 same-opener false false e = refl
 
 -- a reason of the nesting is that of no other refusal
+abbrev isOther : Reason → Bool
+isOther x = not (among (numberOf x) (9 ∷ 10 ∷ []))
+
 module _ (opener : Bool) where
-  other : (x : Reason) → numberOf x < 9 → x ≡ reasonOf opener → ⊥
-  other x few e = this opener (ap numberOf e)
+  other : (x : Reason) → isOther x ≡ true → x ≡ reasonOf opener → ⊥
+  other x apart e = this opener (rw e at apart)
     where
-      this : (o : Bool) → numberOf x ≡ numberOf (reasonOf o) → ⊥
-      this true f = omega arith
-      this false f = omega arith
+      this : (o : Bool) → isOther (reasonOf o) ≡ true → ⊥
+      this true f = never f
+      this false f = never f
 
 -- a nesting that the walk refuses breaks there
 module _ (s : List ℕ) (p : ℕ) (opener : Bool) (answer : verdict s ≡ Refused (refusal (reasonOf opener) p)) (v : Version)
@@ -153,11 +156,11 @@ module _ (s : List ℕ) (p : ℕ) (opener : Bool) (answer : verdict s ≡ Refuse
   Broken = (b : BreaksAt s p opener) × (opener ≡ true → blocksOpened (b .before) ≡ mostOpen + blocksClosed (b .before))
 
   by-walk : {r : Refusal} → Refusing v s 1 begin r → r ≡ refusal (reasonOf opener) p → Broken
-  by-walk (runs-out c) e = absurd (other opener RUN-OUT (omega arith) (ap (λ (x : Refusal). x .reason) e))
+  by-walk (runs-out c) e = absurd (other opener RUN-OUT refl (ap (λ (x : Refusal). x .reason) e))
   by-walk (unlawful {q = q} {r = x} c l j) e =
-      let few = judged-reason (λ (y : Reason). numberOf y < 9) (omega arith) (omega arith) (omega arith) (omega arith) (omega arith) (omega arith)
-      v (drop q s) x j in
-      absurd (other opener (x .reason) few (ap (λ (y : Refusal). y .reason) e))
+      let apart = judged-reason (λ (y : Reason) (bit : ℕ). isOther y ≡ true) refl refl refl refl
+      (record { reserved = λ bit b. refl; modifier = refl; relative = refl; register = refl }) v (drop q s) x j in
+      absurd (other opener (x .reason) apart (ap (λ (y : Refusal). y .reason) e))
   by-walk (breaks {q = q} {size = size} {class = class} {u = u} {reason = reason} c j st) e =
       let at : q ≡ p = ap (λ (x : Refusal). x .position) e in
       let why : reason ≡ reasonOf opener = ap (λ (x : Refusal). x .reason) e in
@@ -183,8 +186,8 @@ module _ (s : List ℕ) (p : ℕ) (opener : Bool) where
     where
       this : StreamRefused s (refusal (reasonOf opener) p) →
           (b : BreaksAt s p opener) × (opener ≡ true → blocksOpened (b .before) ≡ mostOpen + blocksClosed (b .before))
-      this (for-length e) = absurd (other opener LENGTH (omega arith) (ap (λ (x : Refusal). x .reason) e))
-      this (for-version e) = absurd (other opener VERSION (omega arith) (ap (λ (x : Refusal). x .reason) e))
+      this (for-length e) = absurd (other opener LENGTH refl (ap (λ (x : Refusal). x .reason) e))
+      this (for-version e) = absurd (other opener VERSION refl (ap (λ (x : Refusal). x .reason) e))
       this (in-walk v laid known w) = by-walk s p opener answer v laid known w refl
 
 pub nesting : Nesting

@@ -6,6 +6,7 @@ use mathlib.Core.List.{List, [], _∷_, _++_}
 use native.Mathlib.Omega.{arith}
 use lib.Dec.{eqb}
 use lib.ListN.{length, drop, length-drop}
+use borrow.Author.Tests.{lt-ltb}
 use Rattle.paper.specs.Notation.{among}
 use Rattle.paper.specs.Numbers.{numberOf}
 use Rattle.paper.specs.Instruction.{judged}
@@ -23,23 +24,27 @@ use Rattle.blocks.proofs.Refused.{step-reason}
 use Rattle.paper.proofs.Bools.{apart}
 use Rattle.paper.proofs.OwnTokens.{good-inside}
 use Rattle.paper.proofs.OneInstruction.{judged-near}
-use Rattle.demands.specs.Demand1.{readNumbers, checkNumbers, atStart, Numbered}
+use Rattle.demands.specs.Demand1.{readNumbers, checkNumbers, atStart, detailFits, Numbered}
 use Rattle.paper.proofs.OneInstruction.{judged-reason}
 use Rattle.demands.proofs.WhereRefused.{Refusing, runs-out, unlawful, breaks, trails, StreamRefused, for-length, for-version, in-walk, stream-refused}
 
 -- a refusal with one of these numbers, in a stream of so many tokens
 abbrev pub Fits : List ℕ → ℕ → Refusal → Type 0
-Fits numbers tokens r = Numbered numbers tokens (numberOf (r .reason)) (r .position)
+Fits numbers tokens r = Numbered numbers tokens (numberOf (r .reason)) (r .position) (r .detail)
 
 -- a number whose position is 0
-pub at-start : (numbers : List ℕ) (tokens number : ℕ) → among number numbers ≡ true → Numbered numbers tokens number 0
-at-start numbers tokens number t = record { isOfTable = t; isWithin = omega arith; isAtStart = λ e. refl }
+pub at-start : (numbers : List ℕ) (tokens number : ℕ) → among number numbers ≡ true → detailFits number 0 ≡ true → Numbered numbers tokens number 0 0
+at-start numbers tokens number t d = record { isOfTable = t; isWithin = omega arith; isAtStart = λ e. refl; isDetailed = d }
 
 -- any other number, at a position of the stream or at its token count
+at-bit : (numbers : List ℕ) (tokens number position detail : ℕ) → position ≤ tokens → among number numbers ≡ true → among number atStart ≡ false →
+    detailFits number detail ≡ true → Numbered numbers tokens number position detail
+at-bit numbers tokens number position detail h t f d =
+    record { isOfTable = t; isWithin = h; isAtStart = λ e. let z : false ≡ true = sym f ∙ e in apart (cc); isDetailed = d }
+
 pub at-token : (numbers : List ℕ) (tokens number position : ℕ) → position ≤ tokens → among number numbers ≡ true → among number atStart ≡ false →
-    Numbered numbers tokens number position
-at-token numbers tokens number position h t f =
-    record { isOfTable = t; isWithin = h; isAtStart = λ e. let z : false ≡ true = sym f ∙ e in apart (cc) }
+    detailFits number 0 ≡ true → Numbered numbers tokens number position 0
+at-token numbers tokens number position h t f d = at-bit numbers tokens number position 0 h t f d
 
 -- a number of a list is one of a longer list
 among-more : (more : List ℕ) (number : ℕ) (numbers : List ℕ) → among number numbers ≡ true → among number (numbers ++ more) ≡ true
@@ -51,22 +56,32 @@ among-more more number (x ∷ xs) e = this (eqb number x) e (among-more more num
     this true f later = refl
     this false f later = later f
 
-pub widened : (numbers more : List ℕ) {tokens number position : ℕ} → Numbered numbers tokens number position → Numbered (numbers ++ more) tokens number position
+pub widened : (numbers more : List ℕ) {tokens number position detail : ℕ} → Numbered numbers tokens number position detail →
+    Numbered (numbers ++ more) tokens number position detail
 widened numbers more {number = number} n = record {
   isOfTable = among-more more number numbers (n .isOfTable);
   isWithin = n .isWithin;
   isAtStart = n .isAtStart;
+  isDetailed = n .isDetailed;
 }
 
 -- one instruction
 pub instruction-fits : (v : Version) (own : List ℕ) (r : Refusal) → judged v own ≡ Unlawful r → (tokens position : ℕ) → position ≤ tokens →
-    Numbered readNumbers tokens (numberOf (r .reason)) position
+    Numbered readNumbers tokens (numberOf (r .reason)) position (r .detail)
 instruction-fits v own r e tokens position h =
-    judged-reason (λ (reason : Reason). Numbered readNumbers tokens (numberOf reason) position) (told 3 refl refl) (told 4 refl refl)
-    (told 5 refl refl) (told 6 refl refl) (told 7 refl refl) (told 8 refl refl) v own r e
+    judged-reason (λ (reason : Reason) (bit : ℕ). Numbered readNumbers tokens (numberOf reason) position bit) (told 3 0 refl refl refl) (told 4 0 refl refl refl)
+    (told 5 0 refl refl refl) (told 6 0 refl refl refl)
+    (record {
+      reserved = λ bit b. told 16 bit refl refl (lt-ltb bit 32 b);
+      modifier = told 17 24 refl refl refl;
+      relative = told 18 13 refl refl refl;
+      register = told 8 0 refl refl refl;
+    })
+    v own r e
   where
-    told : (number : ℕ) → among number readNumbers ≡ true → among number atStart ≡ false → Numbered readNumbers tokens number position
-    told number t f = at-token readNumbers tokens number position h t f
+    told : (number bit : ℕ) → among number readNumbers ≡ true → among number atStart ≡ false → detailFits number bit ≡ true →
+        Numbered readNumbers tokens number position bit
+    told number bit t f d = at-bit readNumbers tokens number position bit h t f d
 
 -- a refused instruction's position is at most the token count
 pub refused-inside : (v : Version) (s : List ℕ) (p : ℕ) (r : Refusal) → p ≤ length s → judged v (drop p s) ≡ Unlawful r → p + r .position ≤ length s
@@ -75,26 +90,26 @@ refused-inside v s p r h j =
     omega (arith, length-drop p s)
 
 -- a nesting
-nesting-fits : (class : Class) (tokens position : ℕ) → position ≤ tokens → Numbered checkNumbers tokens (numberOf (nestingReason class)) position
-nesting-fits (One s) tokens position h = at-token checkNumbers tokens 9 position h refl refl
-nesting-fits (Opens o) tokens position h = at-token checkNumbers tokens 10 position h refl refl
-nesting-fits (Closes c) tokens position h = at-token checkNumbers tokens 9 position h refl refl
+nesting-fits : (class : Class) (tokens position : ℕ) → position ≤ tokens → Numbered checkNumbers tokens (numberOf (nestingReason class)) position 0
+nesting-fits (One s) tokens position h = at-token checkNumbers tokens 9 position h refl refl refl
+nesting-fits (Opens o) tokens position h = at-token checkNumbers tokens 10 position h refl refl refl
+nesting-fits (Closes c) tokens position h = at-token checkNumbers tokens 9 position h refl refl refl
 
 -- a walk
 walk-fits : {v : Version} {s : List ℕ} {p : ℕ} {w : WalkState} {r : Refusal} → Refusing v s p w r → Fits checkNumbers (length s) r
-walk-fits {s = s} (runs-out c) = at-token checkNumbers (length s) 5 (length s) (omega arith) refl refl
+walk-fits {s = s} (runs-out c) = at-token checkNumbers (length s) 5 (length s) (omega arith) refl refl refl
 walk-fits {v} {s} (unlawful {q = q} {r = r} c l j) =
     widened readNumbers (9 ∷ 10 ∷ 11 ∷ [])
     (instruction-fits v (drop q s) r j (length s) (q + r .position) (refused-inside v s q r (omega arith) j))
 walk-fits {v} {s} (breaks {q = q} {size = size} {class = class} {u = u} {reason = reason} c j st) =
     rw (step-reason class u reason st) (nesting-fits class (length s) q (omega (arith, good-inside size class v s q j)))
-walk-fits {s = s} (trails {q = q} l) = at-token checkNumbers (length s) 11 q (omega arith) refl refl
+walk-fits {s = s} (trails {q = q} l) = at-token checkNumbers (length s) 11 q (omega arith) refl refl refl
 
 -- a stream
 pub check-fits : (s : List ℕ) (r : Refusal) → verdict s ≡ Refused r → Fits checkNumbers (length s) r
 check-fits s r e = this (stream-refused s r e)
   where
     this : StreamRefused s r → Fits checkNumbers (length s) r
-    this (for-length f) = subst (Fits checkNumbers (length s)) f (at-start checkNumbers (length s) 1 refl)
-    this (for-version f) = subst (Fits checkNumbers (length s)) f (at-start checkNumbers (length s) 2 refl)
+    this (for-length f) = subst (Fits checkNumbers (length s)) f (at-start checkNumbers (length s) 1 refl refl)
+    this (for-version f) = subst (Fits checkNumbers (length s)) f (at-start checkNumbers (length s) 2 refl refl)
     this (in-walk v laid known w) = walk-fits w

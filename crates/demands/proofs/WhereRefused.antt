@@ -7,7 +7,7 @@ use native.Mathlib.Omega.{arith}
 use lib.Dec.{leb}
 use lib.ListN.{length, drop, getD}
 use borrow.Author.Tests.{leb-true, leb-false}
-use Rattle.paper.specs.Numbers.{refusal}
+use Rattle.paper.specs.Numbers.{refusal, movedBy}
 use Rattle.paper.specs.Versions.{named}
 use Rattle.paper.specs.Instruction.{judged}
 use Rattle.paper.specs.Blocks.{Cut, then}
@@ -38,7 +38,7 @@ use Rattle.edit.proofs.Standing.{Comes, stays, passes}
 pub data Refusing (v : Version) (s : List ℕ) (p : ℕ) (w : WalkState) : Refusal → Type 0 where
   runs-out : {u : WalkState} → Comes v s p w (length s) u → Refusing v s p w (refusal RUN-OUT (length s))
   unlawful : {q : ℕ} {u : WalkState} {r : Refusal} → Comes v s p w q u → q < length s → judged v (drop q s) ≡ Unlawful r →
-      Refusing v s p w (refusal (r .reason) (q + r .position))
+      Refusing v s p w (movedBy (λ x. q + x) r)
   breaks : {q size : ℕ} {class : Class} {u : WalkState} {reason : Reason} → Comes v s p w q u → judged v (drop q s) ≡ Good size class →
       step u class ≡ bad reason → Refusing v s p w (refusal reason q)
   trails : {q : ℕ} → q < length s → Refusing v s p w (refusal TAIL q)
@@ -84,7 +84,7 @@ module _ (v : Version) (s : List ℕ) (r : Refusal) where
         Refusing v s p w r
     unfolding nesting
     by-judged (Good size class) j e = by-step size class j (step w class) refl e
-    by-judged (Unlawful x) j e = same p w (refusal (x .reason) (p + x .position)) e (unlawful stays inside j)
+    by-judged (Unlawful x) j e = same p w (movedBy (λ q. p + q) x) e (unlawful stays inside j)
 
   -- the first number bounds how many tokens are left
   walk-refused : (most n p : ℕ) (w : WalkState) → p ≤ length s → length s ≤ p + most → nesting n (cutFrom v s p) w ≡ Refused r → Refusing v s p w r

@@ -1,4 +1,4 @@
--- Demand 3: "Take any accepted stream and replace the tokens between two instruction boundaries by any run that fits the room. The edit's
+-- Demand 3, with document 02's Q-3, "demand 3 includes the bit": "Take any accepted stream and replace the tokens between two instruction boundaries by any run that fits the room. The edit's
 -- yes or no, refusal number and position are those of a check of the whole edited stream from its first token, although the edit stops
 -- reading early where it may."
 --
@@ -10,7 +10,7 @@ use mathlib.Core.List.{List}
 use mathlib.Core.Logic.{_⊎_}
 use lib.ListN.{length, take, drop, getD}
 use Rattle.paper.specs.Notation.{pick}
-use Rattle.paper.specs.Numbers.{refusal}
+use Rattle.paper.specs.Numbers.{movedBy}
 use Rattle.paper.specs.Versions.{named}
 use Rattle.paper.specs.Stream.{mostTokens, verdict}
 use Rattle.paper.specs.declared.Version.{Version}
@@ -55,10 +55,10 @@ pub record Holds (before after stream : List ℕ) (tokens : ℕ) : Type 0 where
   pub isHeld : take tokens after ≡ stream
   pub isKept : drop tokens after ≡ drop tokens before
 
--- a stream is refused as the old one was: "the same number, the position moved by m - (j - i)"
+-- a stream is refused as the old one was: "the same number, the position moved by m - (j - i)", and with the same detail
 pub record Moved (stream : List ℕ) (i j m : ℕ) (r : Refusal) : Type 0 where
   pub position : ℕ
-  pub isRefused : verdict stream ≡ no-verdict (refusal (r .reason) position)
+  pub isRefused : verdict stream ≡ no-verdict (movedBy (λ old. position) r)
   pub isMoved : position + (j - i) ≡ r .position + m
 
 pub record Demand3 : Type 0 where
@@ -66,7 +66,7 @@ pub record Demand3 : Type 0 where
   -- This rules out an edit that takes places only before instructions that are counted, and one that takes the place behind END.
   pub boundary-is-read : (stream : List ℕ) (count p : ℕ) → verdict stream ≡ yes-verdict count → Boundary stream p → ReadPlace stream p
   pub read-is-boundary : (stream : List ℕ) (count p : ℕ) → verdict stream ≡ yes-verdict count → ReadPlace stream p → Boundary stream p
-  -- The demand. Of an accepted stream the edit and a check of the edited stream have the same refusal, in number and position, or both say
+  -- The demand. Of an accepted stream the edit and a check of the edited stream have the same refusal, in number, position and detail, or both say
   -- yes and have none. This rules out an edit that judges the run alone, which lets a lonely ENDIF in, and one that says JOINED on equal depth, which
   -- takes an IF for a REP.
   pub edit-is-a-check : (buffer : List ℕ) (n i j : ℕ) (run : List ℕ) (count : ℕ) → verdict (take n buffer) ≡ yes-verdict count →

@@ -12,7 +12,7 @@ use borrow.Author.Tests.{ne-eqb, eqb-true, eqb-false}
 use Rattle.paper.specs.Notation.{bits, bit, pick}
 use Rattle.paper.specs.Numbers.{toldToken}
 use Rattle.paper.specs.Versions.{isPixel, hasSizes}
-use Rattle.paper.specs.OperandTokens.{relativeSources, relativeDestinations, markedSources, hasShiftScale, isFree, bothLaid, sourceModifier, modifierOf, laid, typed, typeOf, layoutThenType, tokenAt, bringsRelative, leftOver}
+use Rattle.paper.specs.OperandTokens.{relativeSources, relativeDestinations, markedSources, hasShiftScale, isFree, bothLaid, sourceModifier, modifierOf, laid, typed, typeOf, tokenAt, bringsRelative, leftOver}
 use Rattle.paper.specs.Places.{Types, free, only, Place, freeDestination, destination, source, relative}
 use Rattle.paper.specs.Instruction.{onToken, relativeToken, operand, onTaken, operands}
 use Rattle.paper.specs.declared.Version.{Version}
@@ -21,7 +21,8 @@ use Rattle.paper.specs.declared.Token.the-variants.{Good, Bad}
 use Rattle.paper.specs.declared.Taken.{Taken}
 use Rattle.paper.specs.declared.Taken.the-variants.{Took, Refused as refused}
 use Rattle.paper.proofs.Bools.{both-left, both-right, and-false, never, apart}
-use Rattle.paper.proofs.OneToOne.{no-reason-zero}
+use Rattle.paper.proofs.Faults.{isGood, token-good}
+use Rattle.paper.proofs.OneToOne.{no-fault-zero}
 use Rattle.paper.proofs.VersionTokens.{each}
 use Rattle.versions.specs.Sets.{holds}
 use Rattle.tokens.specs.Plain.{plainSource}
@@ -32,33 +33,24 @@ use Rattle.operands.proofs.OperandAt.{relative-at, operand-at}
 use Rattle.uniform.specs.Uniform.{sources}
 use Rattle.door.specs.Door.{tookIn, isFit, Meant}
 
-abbrev isGood : Token → Bool
-isGood Good = true
-isGood (Bad reason) = false
-
 -- what an operand takes, by whether its token is good
 took-by : (t : Token) (offset : ℕ) (next : Taken) → tookIn (onToken t offset next) ≡ pick (isGood t) (tookIn next) 0
 took-by Good offset next = refl
-took-by (Bad reason) offset next = refl
+took-by (Bad reason bit) offset next = refl
 
 took-pick : (b : Bool) (next other : Taken) → tookIn (pick b next other) ≡ pick b (tookIn next) (tookIn other)
 took-pick true next other = refl
 took-pick false next other = refl
 
-both-good : (laid typed : Bool) → isGood (layoutThenType laid typed) ≡ (laid && typed)
-both-good true true = refl
-both-good true false = refl
-both-good false typed = refl
-
 -- the relative token
 module _ (v : Version) (offset at told : ℕ) (behind : List ℕ) (h : at < length behind) (e : told ≡ toldToken (tokenAt v relative (getD behind at 0))) where
   told-good : (t : Token) → told ≡ toldToken t → told ≡ 0 → isGood t ≡ true
   told-good Good s z = refl
-  told-good (Bad reason) s z = absurd (no-reason-zero reason (sym z ∙ s))
+  told-good (Bad reason bit) s z = absurd (no-fault-zero reason bit (sym z ∙ s))
 
   told-bad : (t : Token) → told ≡ toldToken t → (told ≡ 0 → ⊥) → isGood t ≡ false
   told-bad Good s z = absurd (z s)
-  told-bad (Bad reason) s z = refl
+  told-bad (Bad reason bit) s z = refl
 
   took : tookIn (relativeToken v offset (drop at behind)) ≡ pick (isGood (tokenAt v relative (getD behind at 0))) 2 0
   took = rw (relative-at v offset at behind h) (took-by (tokenAt v relative (getD behind at 0)) offset (Took 2))
@@ -106,9 +98,8 @@ module _ (v : Version) (set token : ℕ) where
   written-laid (only types) f = rw (unsized-by v relativeDestinations written-sized (sym f)) refl
 
   pub written-good : (types : Types) → Meant v (destination types) set → isGood (tokenAt v (destination types) token) ≡ goodWritten v set token
-  unfolding tokenAt
   written-good types m =
-      both-good (laid v (destination types) token) (typed v (destination types) (typeOf token))
+      token-good v (destination types) token
       ∙ rw (written-laid types (m .free), m .types token) refl
 
   bool-three : (a b c : Bool) → a && (b && c) ≡ (a && b) && c
@@ -128,15 +119,13 @@ module _ (v : Version) (set token : ℕ) where
       (bool-three (bothLaid token) (sourceModifier v (modifierOf token) (typeOf token)) (eqb (bit 13 token) 0 || markedSources v))
 
   pub read-good : (types : Types) → Meant v (source types) set → isGood (tokenAt v (source types) token) ≡ goodRead v set token
-  unfolding tokenAt
   read-good types m =
-      both-good (laid v (source types) token) (typed v (source types) (typeOf token)) ∙ rw (read-laid types (m .free), m .types token) refl
+      token-good v (source types) token ∙ rw (read-laid types (m .free), m .types token) refl
 
   pub plain-good : (types : Types) → Meant v (source types) set → plainSource token ≡ true →
       isGood (tokenAt v (source types) token) ≡ holds set (typeOf token)
-  unfolding tokenAt
   plain-good types m p =
-      both-good (laid v (source types) token) (typed v (source types) (typeOf token))
+      token-good v (source types) token
       ∙ rw (plain-source-laid v types token p, m .types token) refl
 
 -- an operand at a place, by whether its token is good and brings a relative one
@@ -209,7 +198,7 @@ module _ (v : Version) (token : ℕ) where
 module _ (v : Version) (place : Place) (offset : ℕ) where
   relative-some : (t : Token) (n : ℕ) → onToken t (offset + 1) (Took 2) ≡ Took n → n ≡ 0 → ⊥
   relative-some Good n e z = let two : 2 ≡ n = cc in omega arith
-  relative-some (Bad reason) n e z = apart (cc)
+  relative-some (Bad reason bit) n e z = apart (cc)
 
   brought-some : (brings : Bool) (rest : List ℕ) (n : ℕ) → pick brings (relativeToken v (offset + 1) rest) (Took 1) ≡ Took n → n ≡ 0 → ⊥
   brought-some true [] n e z = apart (cc)
@@ -219,7 +208,7 @@ module _ (v : Version) (place : Place) (offset : ℕ) where
   token-some : (t : Token) (brings : Bool) (rest : List ℕ) (n : ℕ) →
       onToken t offset (pick brings (relativeToken v (offset + 1) rest) (Took 1)) ≡ Took n → n ≡ 0 → ⊥
   token-some Good brings rest n e z = brought-some brings rest n e z
-  token-some (Bad reason) brings rest n e z = apart (cc)
+  token-some (Bad reason bit) brings rest n e z = apart (cc)
 
   operand-some : (tokens : List ℕ) (n : ℕ) → operand v place offset tokens ≡ Took n → n ≡ 0 → ⊥
   unfolding operand

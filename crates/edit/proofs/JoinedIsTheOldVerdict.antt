@@ -8,7 +8,7 @@ use lib.ListN.{length, take, drop, length-append}
 use lib.Seq.{drop-at, length-take-le}
 use borrow.Author.Tests.{le-leb}
 use Rattle.paper.specs.Notation.{pick}
-use Rattle.paper.specs.Numbers.{refusal}
+use Rattle.paper.specs.Numbers.{refusal, movedBy}
 use Rattle.paper.specs.Instruction.{judged}
 use Rattle.paper.specs.Blocks.{Cut, out, wrong, then}
 use Rattle.paper.specs.Walk.{WalkState, Next, go, bad, finish, step, atEnd, onNext}
@@ -21,7 +21,7 @@ use Rattle.paper.specs.declared.Judged.{Judged}
 use Rattle.paper.specs.declared.Judged.the-variants.{Good, Refused as unfit}
 use Rattle.paper.specs.declared.Verdict.{Verdict}
 use Rattle.paper.specs.declared.Verdict.the-variants.{Accepted, Refused}
-use Rattle.blocks.specs.Reach.{moved, movedRefusal, startOf}
+use Rattle.blocks.specs.Reach.{moved, startOf}
 use Rattle.blocks.proofs.Reach.{reached, joined}
 use Rattle.blocks.proofs.Cutting.{cut-moved, start-of}
 use Rattle.blocks.specs.Nesting.{nesting, countOf}
@@ -56,19 +56,19 @@ joined-walked v old i j run order e =
     ∙ ap (moved (countOf (cutFrom v (splice old i j run) 1)) f) (sym (walked-nesting v old))
 
 -- a walk from p on is refused at p or later
-position-of : (reason : Reason) (p : ℕ) (r : Refusal) → Refused (refusal reason p) ≡ Refused r → p ≡ r .position
-position-of reason p r e = let same : refusal reason p ≡ r = cc in ap (λ (y : Refusal). y .position) same
+position-of : (x r : Refusal) → Refused x ≡ Refused r → x .position ≡ r .position
+position-of x r e = let same : x ≡ r = cc in ap (λ (y : Refusal). y .position) same
 
 late-end : (n : ℕ) (c : Cut) (r : Refusal) → atEnd n c ≡ Refused r → startOf c ≡ r .position
 unfolding startOf
 late-end n (out p) r e = apart (cc)
-late-end n (wrong p x) r e = position-of TAIL p r e
-late-end n (then class p rest) r e = position-of TAIL p r e
+late-end n (wrong p x) r e = position-of (refusal TAIL p) r e
+late-end n (then class p rest) r e = position-of (refusal TAIL p) r e
 
 late-next : (n p : ℕ) (rest : Cut) (on : WalkState → Verdict) (r : Refusal) → p ≤ startOf rest → ((w : WalkState) → on w ≡ Refused r → p ≤ r .position) →
     (x : Next) → onNext x n p rest on ≡ Refused r → p ≤ r .position
 late-next n p rest on r h later (go w) e = later w e
-late-next n p rest on r h later (bad reason) e = omega (arith, position-of reason p r e)
+late-next n p rest on r h later (bad reason) e = omega (arith, position-of (refusal reason p) r e)
 late-next n p rest on r h later finish e = omega (arith, late-end n rest r e)
 
 late-one : (n p : ℕ) (rest : ℕ → Cut) (w : WalkState) (r : Refusal) → ((m : ℕ) → p ≤ startOf (rest m)) →
@@ -77,12 +77,12 @@ late-one : (n p : ℕ) (rest : ℕ → Cut) (w : WalkState) (r : Refusal) → ((
 unfolding nesting
 late-one n p rest w r h later (Good size class) e =
     late-next n p (rest (suc size)) (λ next. nesting n (rest (suc size)) next) r (h (suc size)) (later (suc size)) (step w class) e
-late-one n p rest w r h later (unfit x) e = omega (arith, position-of (x .reason) (p + x .position) r e)
+late-one n p rest w r h later (unfit x) e = omega (arith, position-of (movedBy (λ q. p + q) x) r e)
 
 late : (most n : ℕ) (v : Version) (tokens : List ℕ) (p : ℕ) (w : WalkState) (r : Refusal) → nesting n (cutting most v tokens p) w ≡ Refused r → p ≤ r .position
 unfolding cutting nesting
-late zero n v tokens p w r e = omega (arith, position-of RUN-OUT p r e)
-late (suc most) n v [] p w r e = omega (arith, position-of RUN-OUT p r e)
+late zero n v tokens p w r e = omega (arith, position-of (refusal RUN-OUT p) r e)
+late (suc most) n v [] p w r e = omega (arith, position-of (refusal RUN-OUT p) r e)
 late (suc most) n v (token ∷ rest) p w r e =
     late-one n p (λ m. cutting most v (drop m (token ∷ rest)) (p + m)) w r
     (λ m. omega (arith, start-of most v (drop m (token ∷ rest)) (p + m)))
@@ -118,7 +118,7 @@ module _ (v : Version) (old : List ℕ) (i j : ℕ) (run : List ℕ) (order : i 
       joined-walked v old i j run order meeting
       ∙ ap (moved (countOf (cutFrom v (splice old i j run) 1)) (λ p. i + length run + (p - j))) e
 
-  pub meets-refused : (r : Refusal) → walked v old ≡ Refused r → walked v (splice old i j run) ≡ Refused (movedRefusal (carried i j (length run)) r)
+  pub meets-refused : (r : Refusal) → walked v old ≡ Refused r → walked v (splice old i j run) ≡ Refused (movedBy (carried i j (length run)) r)
   unfolding meetsAtEnd
   meets-refused r e =
       let m = met (standingAt v old j) (standingAt v (splice old i j run) (i + length run)) meeting in
@@ -139,7 +139,7 @@ module _ (room : ℕ) (old : List ℕ) (i j : ℕ) (run : List ℕ) (n : ℕ) (a
       (countOf (cutFrom (a .0) (splice old i j run) 1), splice-verdict (a .1) ∙ meets-accepted (a .0) old i j run (p .order) (m .0) c before)
 
   -- else it is refused with the same number, at the position to which the edit carries the old one.
-  pub joined-refused : (r : Refusal) → verdict old ≡ Refused r → verdict (splice old i j run) ≡ Refused (refusal (r .reason) (carried i j (length run) (r .position)))
+  pub joined-refused : (r : Refusal) → verdict old ≡ Refused r → verdict (splice old i j run) ≡ Refused (movedBy (carried i j (length run)) r)
   joined-refused r e =
       let a = joined-allowed room old i j run n answer in
       let p = places (a .0) old i j (a .1 .place) in

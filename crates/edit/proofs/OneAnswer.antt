@@ -19,7 +19,7 @@ same-edit (Accepted n) (Refused r) e = absurd (no-reason-zero (r .reason) (ap (�
 same-edit (Refused a) (Joined m) e = absurd (no-reason-zero (a .reason) (sym (ap (λ (t : ToldEdit). t .number) e)))
 same-edit (Refused a) (Accepted m) e = absurd (no-reason-zero (a .reason) (sym (ap (λ (t : ToldEdit). t .number) e)))
 same-edit (Refused a) (Refused b) e =
-    ap Refused (same-refusal a b (ap (λ (t : ToldEdit). t .number) e) (ap (λ (t : ToldEdit). t .position) e))
+    ap Refused (same-refusal a b (ap (λ (t : ToldEdit). t .number) e) (ap (λ (t : ToldEdit). t .position) e) (ap (λ (t : ToldEdit). t .detail) e))
 
 -- The promise of an edit, that it tells the definition's answer and leaves the definition's buffer, leaves one answer and one content:
 -- two answers with contents that both keep it are equal.

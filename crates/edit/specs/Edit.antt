@@ -80,13 +80,14 @@ bufferAfter buffer n i j run = heldAfter (editedIn buffer n i j run) buffer n i 
 pub record ToldEdit : Type 0 where
   pub number : ℕ
   pub position : ℕ
+  pub detail : ℕ
   pub joined : ℕ
   pub tokens : ℕ
 
 abbrev pub toldEdit : Edited → ToldEdit
-toldEdit (Joined n) = record { number = 0; position = 0; joined = 1; tokens = n }
-toldEdit (Accepted n) = record { number = 0; position = 0; joined = 0; tokens = n }
-toldEdit (Refused r) = record { number = numberOf (r .reason); position = r .position; joined = 0; tokens = 0 }
+toldEdit (Joined n) = record { number = 0; position = 0; detail = 0; joined = 1; tokens = n }
+toldEdit (Accepted n) = record { number = 0; position = 0; detail = 0; joined = 0; tokens = n }
+toldEdit (Refused r) = record { number = numberOf (r .reason); position = r .position; detail = r .detail; joined = 0; tokens = 0 }
 
 -- where a position of the old stream goes: before i it stays, from j on it moves
 abbrev pub carried : ℕ → ℕ → ℕ → ℕ → ℕ

@@ -30,7 +30,11 @@ struct Found {
 fn refused(reason: Reason, position: usize) -> Edited
     ensures { λ r. ⌜ r ≡ Edited.Refused (refusal reason position) ⌝ }
 {
-    Edited::Refused(Refusal { reason, position })
+    Edited::Refused(Refusal {
+        reason,
+        position,
+        detail: 0,
+    })
 }
 
 // The walk from `from` on, up to `target`.

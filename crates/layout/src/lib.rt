@@ -4,9 +4,8 @@ ghost use mathlib.Core.Bool.{_&&_, _||_};
 ghost use lib.Dec.{eqb};
 ghost use Rattle.paper.specs.Notation.{bits, bit};
 ghost use Rattle.paper.specs.Versions.{isPixel};
-ghost use Rattle.paper.specs.Numbers.{toldToken};
 ghost use Rattle.paper.specs.Places.{freeDestination, freeSource, declared, condition, predicate, relative};
-ghost use Rattle.paper.specs.OperandTokens.{typeOf, modifierOf, bothLaid, relativeSources, markedSources, hasShiftScale, sourceModifier, laid, layoutThenType};
+ghost use Rattle.paper.specs.OperandTokens.{typeOf, modifierOf, bothLaid, relativeSources, markedSources, hasShiftScale, sourceModifier, laid};
 use paper::Version;
 
 // Sets of modifiers: each raises its own bit.
@@ -87,7 +86,7 @@ pub fn typed_destination_laid(version: Version, token: u32) -> bool
     written & (token / 0x2000 % 2 == 0)
 }
 
-fn source_modifier(version: Version, token: u32) -> bool
+pub fn source_modifier(version: Version, token: u32) -> bool
     ensures { λ r. ⌜ r ≡ sourceModifier version (modifierOf token) (typeOf token) ⌝ }
 {
     let modifier = token / 0x100_0000 % 16;
@@ -175,15 +174,4 @@ pub fn relative_laid(version: Version, token: u32) -> bool
 {
     let laid = unfree_laid(token);
     laid & (token / 0x100_0000 % 16 == 0)
-}
-
-// What is told of a token, by its layout and then by its type: 0, or the number of its fault.
-pub fn layout_then_type(laid: bool, typed: bool) -> u32
-    ensures { λ r. ⌜ r ≡ toldToken (layoutThenType laid typed) ⌝ }
-{
-    if laid {
-        if typed { 0 } else { paper::REGISTER }
-    } else {
-        paper::OPERAND
-    }
 }

@@ -8,7 +8,7 @@ use lib.Dec.{leb}
 use lib.ListN.{length, drop, getD}
 use borrow.Author.Tests.{leb-true, leb-false}
 use Rattle.paper.specs.Notation.{pick}
-use Rattle.paper.specs.Numbers.{refusal}
+use Rattle.paper.specs.Numbers.{refusal, movedBy}
 use Rattle.paper.specs.Instruction.{judged}
 use Rattle.paper.specs.Versions.{named}
 use Rattle.paper.specs.Stream.{cutOne, cutFrom, mostTokens}
@@ -42,7 +42,7 @@ module _
     (from : ℕ)
     (P : Noted → Type 0)
     (runs-out : P (Refused (refusal RUN-OUT (length s))))
-    (is-refused : (p : ℕ) (r : Refusal) → p < length s → judged v (drop p s) ≡ Unlawful r → P (Refused (refusal (r .reason) (p + r .position))))
+    (is-refused : (p : ℕ) (r : Refusal) → p < length s → judged v (drop p s) ≡ Unlawful r → P (Refused (movedBy (λ q. p + q) r)))
     (is-found : (p size notes comments : ℕ) (class : Class) → from ≤ p → comments ≤ p → p < length s → judged v (drop p s) ≡ Good size class →
     P (Found (note notes p comments (p + suc size))))
   where

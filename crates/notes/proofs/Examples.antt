@@ -4,7 +4,8 @@ use mathlib.Core.List.{List, [], _∷_}
 use Prim.Native.Nat.{ℕ}
 use Rattle.paper.specs.OpcodeTable.{rows}
 use Rattle.paper.specs.FirstVersions.{firstRows}
-use Rattle.paper.specs.OperandTokens.{tokenAt}
+use Rattle.paper.specs.Faults.{lowestFrom, lowest}
+use Rattle.paper.specs.OperandTokens.{faultAt, tokenAt}
 use Rattle.paper.specs.Dcl.{declaration}
 use Rattle.paper.specs.Blocks.{classOf}
 use Rattle.paper.specs.Instruction.{tokenHead, operand, operands, judged}
@@ -18,10 +19,13 @@ tells : List ℕ → ℕ → ℕ → ToldNoted
 tells stream version from = toldNoted (noted version stream from)
 
 yes : ℕ → ℕ → ℕ → ℕ → ToldNoted
-yes notes at comments next = record { number = 0; position = 0; notes = notes; at = at; comments = comments; next = next }
+yes notes at comments next = record { number = 0; position = 0; detail = 0; notes = notes; at = at; comments = comments; next = next }
+
+abbrev atBit : ℕ → ℕ → ℕ → ToldNoted
+atBit number position bit = record { number = number; position = position; detail = bit; notes = 0; at = 0; comments = 0; next = 0 }
 
 no : ℕ → ℕ → ToldNoted
-no number position = record { number = number; position = position; notes = 0; at = 0; comments = 0; next = 0 }
+no number position = atBit number position 0
 
 -- two empty comments before END, from the first one, from the second and from END on
 two-empty : List ℕ
@@ -58,8 +62,8 @@ texkill-and-phase :
 unfolding tells yes rows firstRows entryOf typedPlaces tokenAt declaration classOf tokenHead operand operands judged cutting cutFrom startOf onOther notedIn notedFrom noted toldNoted
 texkill-and-phase = refl
 
--- another version, a place past the end, no END, and an instruction that is refused
-refused : tells two-empty 0xFFFE0201 1 ∷ tells two-empty 0xFFFE0200 9 ∷ tells (0x0000FFFE ∷ []) 0xFFFE0200 0 ∷ tells (0x0000FFFE ∷ 0x0000002C ∷ []) 0xFFFE0200 0 ∷ []
-    ≡ no 2 0 ∷ no 5 4 ∷ no 5 1 ∷ no 3 1 ∷ []
-unfolding tells no two-empty rows entryOf typedPlaces tokenAt declaration classOf tokenHead operand operands judged cutting cutFrom startOf onOther notedIn notedFrom noted toldNoted
+-- another version, a place past the end, no END, an instruction that is refused, and one for a bit
+refused : tells two-empty 0xFFFE0201 1 ∷ tells two-empty 0xFFFE0200 9 ∷ tells (0x0000FFFE ∷ []) 0xFFFE0200 0 ∷ tells (0x0000FFFE ∷ 0x0000002C ∷ []) 0xFFFE0200 0 ∷
+    tells (0x0000FFFE ∷ 0x01000028 ∷ 0xE0E46800 ∷ []) 0xFFFE0200 0 ∷ [] ≡ no 2 0 ∷ no 5 4 ∷ no 5 1 ∷ no 3 1 ∷ atBit 16 2 14 ∷ []
+unfolding tells no two-empty rows entryOf typedPlaces lowestFrom lowest faultAt tokenAt declaration classOf tokenHead operand operands judged cutting cutFrom startOf onOther notedIn notedFrom noted toldNoted
 refused = refl

@@ -17,7 +17,7 @@ unfolding toldNoted
 same-noted (Found m) (Found n) e = ap Found (ap telling e)
 same-noted (Found m) (Refused s) e = absurd (no-reason-zero (s .reason) (ap (λ (t : ToldNoted). t .number) e))
 same-noted (Refused r) (Found n) e = absurd (no-reason-zero (r .reason) (sym (ap (λ (t : ToldNoted). t .number) e)))
-same-noted (Refused r) (Refused s) e = ap Refused (same-refusal r s (ap (λ t. t .number) e) (ap (λ t. t .position) e))
+same-noted (Refused r) (Refused s) e = ap Refused (same-refusal r s (ap (λ t. t .number) e) (ap (λ t. t .position) e) (ap (λ t. t .detail) e))
 
 pub one-note : (version : ℕ) (tokens : List ℕ) (at : ℕ) (a : Noted) → toldNoted a ≡ toldNoted (noted version tokens at) → a ≡ noted version tokens at
 one-note version tokens at a e = same-noted a (noted version tokens at) e

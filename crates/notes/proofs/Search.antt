@@ -6,15 +6,15 @@ use Prim.Native.Nat.{ℕ, suc, _+_, _≤_, _<_}
 use native.Mathlib.Omega.{arith}
 use lib.ListN.{length, drop, getD, length-drop}
 use Rattle.paper.specs.Notation.{pick}
-use Rattle.paper.specs.Numbers.{reasonBy, refusal}
+use Rattle.paper.specs.Numbers.{reasonBy, refusal, refusalAtBit}
 use Rattle.paper.specs.Instruction.{judged}
 use Rattle.paper.specs.Stream.{cutFrom}
 use Rattle.paper.specs.declared.Version.{Version}
 use Rattle.paper.specs.declared.Reason.the-variants.{RunOut as RUN-OUT}
 use Rattle.paper.specs.declared.Judged.the-variants.{Good, Refused as Unlawful}
-use Rattle.paper.proofs.OneInstruction.{judged-near}
+use Rattle.paper.proofs.OneInstruction.{judged-near, judged-bit}
 use Rattle.paper.proofs.OwnTokens.{good-within}
-use Rattle.told.specs.Numbered.{isRefusal, sizeIn, kindIn, classBy, judgedFrom}
+use Rattle.told.specs.Numbered.{isRefusal, sizeIn, kindIn, numberIn, bitIn, positionIn, classBy, judgedFrom}
 use Rattle.told.proofs.Numbers.{judged-back}
 use Rattle.stretches.specs.Stretch.{toldAt}
 use Rattle.stretches.proofs.Stretches.{told-whole}
@@ -32,9 +32,9 @@ module _ (v : Version) (s : List ℕ) (before : Before) (comments at : ℕ) wher
 
   module _ (told : ℕ) (some : at < length s) (is : told ≡ toldAt v s 0 at) where
     judges : judged v (drop at s) ≡ judgedFrom told
-    judges = sym (ap judgedFrom (is ∙ told-whole v s at) ∙ judged-back (judged v (drop at s)))
+    judges = sym (ap judgedFrom (is ∙ told-whole v s at) ∙ judged-back (length (drop at s)) (judged v (drop at s)) (judged-bit v (drop at s)))
 
-    refuses : isRefusal told ≡ true → judged v (drop at s) ≡ Unlawful (refusal (reasonBy (kindIn told)) (sizeIn told))
+    refuses : isRefusal told ≡ true → judged v (drop at s) ≡ Unlawful (refusalAtBit (reasonBy (numberIn told)) (positionIn told) (bitIn told))
     unfolding judgedFrom
     refuses f = rw f at judges
 
@@ -44,11 +44,11 @@ module _ (v : Version) (s : List ℕ) (before : Before) (comments at : ℕ) wher
 
     -- a refused instruction, and a good one
     pub search-refused : isRefusal told ≡ true →
-        notedIn v s (cutFrom v s at) before comments ≡ Refused (refusal (reasonBy (kindIn told)) (at + sizeIn told))
+        notedIn v s (cutFrom v s at) before comments ≡ Refused (refusalAtBit (reasonBy (numberIn told)) (at + positionIn told) (bitIn told))
     unfolding notedIn
     search-refused f = rw (cut-at v s at some, refuses f)
 
-    pub refused-inside : isRefusal told ≡ true → at + sizeIn told < length s
+    pub refused-inside : isRefusal told ≡ true → at + positionIn told < length s
     refused-inside f =
         let near = rw (refuses f) at (judged-near v (drop at s)) in
         omega (arith, near, length-drop at s)

@@ -80,7 +80,7 @@ module _ (v : Version) (place : Place) (offset at told : ℕ) (behind : List ℕ
 module _ (v : Version) (place : Place) (offset n : ℕ) where
   relative-fits : (token : Token) (rest : List ℕ) → onToken token (offset + 1) (Took 2) ≡ Took n → n ≤ suc (suc (length rest))
   relative-fits Good rest e = let two : 2 ≡ n = cc in omega arith
-  relative-fits (Bad reason) rest e = apart (cc)
+  relative-fits (Bad reason bit) rest e = apart (cc)
 
   brought-fits : (brings : Bool) (rest : List ℕ) → pick brings (relativeToken v (offset + 1) rest) (Took 1) ≡ Took n → n ≤ suc (length rest)
   brought-fits true [] e = apart (cc)
@@ -90,7 +90,7 @@ module _ (v : Version) (place : Place) (offset n : ℕ) where
   token-fits : (judged : Token) (brings : Bool) (rest : List ℕ) →
       onToken judged offset (pick brings (relativeToken v (offset + 1) rest) (Took 1)) ≡ Took n → n ≤ suc (length rest)
   token-fits Good brings rest e = brought-fits brings rest e
-  token-fits (Bad reason) brings rest e = apart (cc)
+  token-fits (Bad reason bit) brings rest e = apart (cc)
 
   operand-fits : (tokens : List ℕ) → operand v place offset tokens ≡ Took n → n ≤ length tokens
   unfolding operand
@@ -99,7 +99,7 @@ module _ (v : Version) (place : Place) (offset n : ℕ) where
 
   relative-few : (token : Token) → onToken token (offset + 1) (Took 2) ≡ Took n → n ≤ 2
   relative-few Good e = let two : 2 ≡ n = cc in omega arith
-  relative-few (Bad reason) e = apart (cc)
+  relative-few (Bad reason bit) e = apart (cc)
 
   brought-few : (brings : Bool) (rest : List ℕ) → pick brings (relativeToken v (offset + 1) rest) (Took 1) ≡ Took n → n ≤ 2
   brought-few true [] e = apart (cc)
@@ -109,7 +109,7 @@ module _ (v : Version) (place : Place) (offset n : ℕ) where
   token-few : (judged : Token) (brings : Bool) (rest : List ℕ) →
       onToken judged offset (pick brings (relativeToken v (offset + 1) rest) (Took 1)) ≡ Took n → n ≤ 2
   token-few Good brings rest e = brought-few brings rest e
-  token-few (Bad reason) brings rest e = apart (cc)
+  token-few (Bad reason bit) brings rest e = apart (cc)
 
   pub operand-few : (tokens : List ℕ) → operand v place offset tokens ≡ Took n → n ≤ 2
   unfolding operand

@@ -7,6 +7,7 @@ pub mod OneToOne
 pub mod FirstRows
 pub mod DclRow
 pub mod FirstToken
+pub mod Faults
 pub mod Sizeless
 pub mod OneInstruction
 pub mod OwnTokens

@@ -1,4 +1,4 @@
--- An instruction and its refusal lie within its tokens, and a refusal is for one of six reasons: what holds of each fault that an instruction
+-- An instruction and its refusal lie within its tokens, and a refusal is for one of eight reasons: what holds of each fault that an instruction
 -- can have, where it can have it, holds of its refusal.
 use Prim.Native.Nat.{ℕ, suc, _+_, _-_, _≤_, _<_}
 use mathlib.Core.Path.{_≡_, refl}
@@ -9,17 +9,17 @@ use lib.Dec.{eqb, leb}
 use lib.ListN.{length, take, drop, length-take, length-drop}
 use borrow.Author.Tests.{leb-true}
 use Rattle.paper.specs.Notation.{pick}
-use Rattle.paper.specs.Numbers.{refusal}
+use Rattle.paper.specs.Numbers.{refusal, refusalAtBit}
 use Rattle.paper.specs.OpcodeTable.{DCL}
-use Rattle.paper.specs.Places.{Place, relative, declared}
-use Rattle.paper.specs.OperandTokens.{typeOf, laid, typed, layoutThenType, tokenAt, bringsRelative, leftOver, refusedOperands}
-use Rattle.paper.specs.Dcl.{isDeclared, faceLaid, declaredAt, usageLaid, onDeclared, declaration}
+use Rattle.paper.specs.Places.{Place, relative}
+use Rattle.paper.specs.OperandTokens.{typeOf, tokenAt, bringsRelative, leftOver}
+use Rattle.paper.specs.Dcl.{declaredAt, usageAt, onDeclared, declaration}
 use Rattle.paper.specs.InstructionToken.{opcodeOf, isPredicated, withPredicate}
 use Rattle.paper.specs.Blocks.{classOf}
 use Rattle.paper.specs.Instruction.{claimed, Head, tokenHead, onToken, relativeToken, operand, onTaken, operands, operandsOf, onOperands, claim, onClaimed, judged}
 use Rattle.paper.specs.declared.Version.{Version}
 use Rattle.paper.specs.declared.Reason.{Reason}
-use Rattle.paper.specs.declared.Reason.the-variants.{Opcode as OPCODE, Bits as BITS, RunOut as RUN-OUT, Size as SIZE, Operand as OPERAND, Register as REGISTER}
+use Rattle.paper.specs.declared.Reason.the-variants.{Opcode as OPCODE, Bits as BITS, RunOut as RUN-OUT, Size as SIZE, Register as REGISTER, Reserved as RESERVED, Modifier as MODIFIER, Relative as RELATIVE}
 use Rattle.paper.specs.declared.Refusal.{Refusal}
 use Rattle.paper.specs.declared.Token.{Token}
 use Rattle.paper.specs.declared.Token.the-variants.{Good as good, Bad as bad}
@@ -30,6 +30,7 @@ use Rattle.paper.specs.declared.Operands.the-variants.{Fit, Refused as u
 use Rattle.paper.specs.declared.Class.{Class}
 use Rattle.paper.specs.declared.Judged.{Judged}
 use Rattle.paper.specs.declared.Judged.the-variants.{Good, Refused}
+use Rattle.paper.proofs.Faults.{TokenFaults, OfToken, of-token, of-declared, of-usage}
 use Rattle.paper.proofs.FirstToken.{Broken, stray-comment, stray-end, no-row, stray-bits, Says, is-broken, is-comment, is-end, is-listed, says}
 
 -- P holds of the faults that an instruction with this many tokens behind its first can have: those of the whole instruction stand at its
@@ -39,8 +40,7 @@ pub record Faults (P : Refusal → Type 0) (most : ℕ) : Type 0 where
   pub bits : P (refusal BITS 0)
   pub run-out : P (refusal RUN-OUT 0)
   pub size : P (refusal SIZE 0)
-  pub layout : (p : ℕ) → p ≤ most → P (refusal OPERAND p)
-  pub register : (p : ℕ) → p ≤ most → P (refusal REGISTER p)
+  pub token : (p : ℕ) → p ≤ most → TokenFaults (λ reason bit. P (refusalAtBit reason p bit))
 
 -- a good answer takes tokens that are there, and P holds of a refusal
 module _ (P : Refusal → Type 0) where
@@ -59,21 +59,14 @@ module _ (P : Refusal → Type 0) where
   module _ (most : ℕ) (faults : Faults P most) where
     -- one token, at an offset
     abbrev At : ℕ → Token → Type 0
-    At offset good = Unit {0}
-    At offset (bad reason) = P (refusal reason offset)
-
-    by-tests : (offset : ℕ) (isLaid isTyped : Bool) → offset ≤ most → At offset (layoutThenType isLaid isTyped)
-    by-tests offset true true h = tt
-    by-tests offset true false h = faults .register offset h
-    by-tests offset false isTyped h = faults .layout offset h
+    At offset t = OfToken (λ reason bit. P (refusalAtBit reason offset bit)) t
 
     at-token : (v : Version) (place : Place) (token offset : ℕ) → offset ≤ most → At offset (tokenAt v place token)
-    unfolding tokenAt
-    at-token v place token offset h = by-tests offset (laid v place token) (typed v place (typeOf token)) h
+    at-token v place token offset h = of-token _ (faults .token offset h) v place token
 
     on-token : (t : Token) (offset left : ℕ) (next : Taken) → At offset t → Takes left next → Takes left (onToken t offset next)
     on-token good offset left next h j = j
-    on-token (bad reason) offset left next h j = h
+    on-token (bad reason bit) offset left next h j = h
 
     -- one operand
     relative-takes : (v : Version) (offset : ℕ) (tokens : List ℕ) → offset + length tokens ≤ suc most →
@@ -113,19 +106,18 @@ module _ (P : Refusal → Type 0) where
         on-taken (length tokens) (operand v place offset tokens) _ (operand-takes v place offset tokens h)
         (λ n le. operands-fit v rest (offset + n) (drop n tokens) (omega (arith, length-drop n tokens)))
 
-    declared-fit : (t : Token) (isLaid : Bool) (rest : List ℕ) → 2 ≤ most → At 2 t →
-        Fits (onDeclared t (pick isLaid (leftOver rest) (refusedOperands OPERAND 1)))
-    declared-fit good true rest h j = left-over rest
-    declared-fit good false rest h j = faults .layout 1 (omega arith)
-    declared-fit (bad reason) isLaid rest h j = j
+    declared-fit : (t u : Token) (rest : List ℕ) → At 2 t → At 1 u → Fits (onDeclared t 2 (onDeclared u 1 (leftOver rest)))
+    declared-fit good good rest h j = left-over rest
+    declared-fit good (bad reason bit) rest h j = j
+    declared-fit (bad reason bit) u rest h j = h
 
     declaration-fit : (v : Version) (tokens : List ℕ) → length tokens ≤ most → Fits (declaration v tokens)
     unfolding declaration
     declaration-fit v [] h = faults .size
     declaration-fit v (u ∷ []) h = faults .size
     declaration-fit v (u ∷ (d ∷ rest)) h =
-        declared-fit (declaredAt v d) (usageLaid v (typeOf d) u) rest (omega arith)
-        (by-tests 2 (laid v declared d && faceLaid v d) (isDeclared v (typeOf d)) (omega arith))
+        declared-fit (declaredAt v d) (usageAt v (typeOf d) u) rest (of-declared _ (faults .token 2 (omega arith)) v d)
+        (of-usage _ (faults .token 1 (omega arith)) v (typeOf d) u)
 
     any-fit : (isDcl : Bool) (v : Version) (places : List Place) (tokens : List ℕ) → length tokens ≤ most →
         Fits (pick isDcl (declaration v tokens) (operands v places 1 tokens))
@@ -176,12 +168,39 @@ Near n r = r .position ≤ n - 1
 pub judged-near : (v : Version) (tokens : List ℕ) → Within (Near (length tokens)) (length tokens) (judged v tokens)
 judged-near v tokens =
     judged-within (Near (length tokens)) v tokens
-    (record { opcode = omega arith; bits = omega arith; run-out = omega arith; size = omega arith; layout = λ p h. h; register = λ p h. h })
+    (record {
+      opcode = omega arith;
+      bits = omega arith;
+      run-out = omega arith;
+      size = omega arith;
+      token = λ p h. record { reserved = λ bit b. h; modifier = h; relative = h; register = h };
+    })
 
--- a refusal is for one of six reasons
-pub judged-reason : (Q : Reason → Type 0) → Q OPCODE → Q BITS → Q RUN-OUT → Q SIZE → Q OPERAND → Q REGISTER →
-    (v : Version) (tokens : List ℕ) (r : Refusal) → judged v tokens ≡ Refused r → Q (r .reason)
-judged-reason Q opcode bits run-out size layout register v tokens r e =
+-- a refusal's detail is a bit
+abbrev pub ToldBit : Refusal → Type 0
+ToldBit r = r .detail < 32
+
+pub judged-bit : (v : Version) (tokens : List ℕ) → Within ToldBit (length tokens) (judged v tokens)
+judged-bit v tokens =
+    judged-within ToldBit v tokens
+    (record {
+      opcode = omega arith;
+      bits = omega arith;
+      run-out = omega arith;
+      size = omega arith;
+      token = λ p h. record { reserved = λ bit b. b; modifier = omega arith; relative = omega arith; register = omega arith };
+    })
+
+-- a refusal is for one of eight reasons, and its detail is what goes with the reason
+pub judged-reason : (Q : Reason → ℕ → Type 0) → Q OPCODE 0 → Q BITS 0 → Q RUN-OUT 0 → Q SIZE 0 → TokenFaults Q →
+    (v : Version) (tokens : List ℕ) (r : Refusal) → judged v tokens ≡ Refused r → Q (r .reason) (r .detail)
+judged-reason Q opcode bits run-out size faults v tokens r e =
     rw e at
-    (judged-within (λ x. Q (x .reason)) v tokens
-    (record { opcode = opcode; bits = bits; run-out = run-out; size = size; layout = λ p h. layout; register = λ p h. register }))
+    (judged-within (λ x. Q (x .reason) (x .detail)) v tokens
+    (record {
+      opcode = opcode;
+      bits = bits;
+      run-out = run-out;
+      size = size;
+      token = λ p h. record { reserved = faults .reserved; modifier = faults .modifier; relative = faults .relative; register = faults .register };
+    }))

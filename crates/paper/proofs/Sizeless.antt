@@ -12,14 +12,15 @@ use Rattle.paper.specs.Notation.{pick, bit, bits}
 use Rattle.paper.specs.Numbers.{refusal}
 use Rattle.paper.specs.Versions.{hasSizes}
 use Rattle.paper.specs.OpcodeTable.{DCL}
-use Rattle.paper.specs.Places.{Place, declared, listed, entryOf}
-use Rattle.paper.specs.OperandTokens.{typeOf, isFree, laid, typed, layoutThenType, tokenAt, refusedOperands, leftOver}
-use Rattle.paper.specs.Dcl.{isDeclared, faceLaid, declaredAt, usageLaid, onDeclared, declaration}
+use Rattle.paper.specs.Places.{Place, listed, entryOf}
+use Rattle.paper.specs.OperandTokens.{typeOf, isFree, tokenAt, leftOver}
+use Rattle.paper.specs.Dcl.{declaredAt, usageAt, onDeclared, declaration}
 use Rattle.paper.specs.InstructionToken.{opcodeOf, isPredicated, withPredicate, bitsLaid}
 use Rattle.paper.specs.Blocks.{classOf}
 use Rattle.paper.specs.Instruction.{Head, tokenHead, onToken, operand, onTaken, operands, operandsOf, onOperands, claim, onClaimed, judged}
 use Rattle.paper.specs.declared.Version.{Version}
-use Rattle.paper.specs.declared.Reason.the-variants.{RunOut as RUN-OUT, Size as SIZE, Operand as OPERAND}
+use Rattle.paper.specs.declared.Reason.{Reason}
+use Rattle.paper.specs.declared.Reason.the-variants.{RunOut as RUN-OUT, Size as SIZE}
 use Rattle.paper.specs.declared.Token.{Token}
 use Rattle.paper.specs.declared.Token.the-variants.{Good as good, Bad as bad}
 use Rattle.paper.specs.declared.Taken.the-variants.{Took}
@@ -29,14 +30,17 @@ use Rattle.paper.specs.declared.Class.{Class}
 use Rattle.paper.specs.declared.Judged.{Judged}
 use Rattle.paper.specs.declared.Judged.the-variants.{Good, Refused}
 use Rattle.paper.proofs.Bools.{apart, both-left, both-right}
+use Rattle.paper.proofs.Faults.{TokenFaults, OfToken, of-token, of-declared, of-usage}
 use Rattle.paper.proofs.FirstRows.{noneFree, first-unfree}
 use Rattle.paper.proofs.DclRow.{declaredRow, declared-entry}
 use Rattle.paper.proofs.FirstToken.{Other, stray-comment, stray-end, no-row, stray-bits, Says, is-broken, is-comment, is-end, is-listed, says}
 
 -- no SIZE: of a token, of operands, of an instruction
+abbrev ReasonNot : Reason → ℕ → Type 0
+ReasonNot reason bit = reason ≡ SIZE → ⊥
+
 abbrev TokenNot : Token → Type 0
-TokenNot good = Unit {0}
-TokenNot (bad reason) = reason ≡ SIZE → ⊥
+TokenNot = OfToken ReasonNot
 
 abbrev OperandsNot : Operands → Type 0
 OperandsNot Fit = Unit {0}
@@ -46,40 +50,38 @@ abbrev pub NotSize : Judged → Type 0
 NotSize (Good size class) = Unit {0}
 NotSize (Refused r) = r .reason ≡ SIZE → ⊥
 
-token-not : (isLaid isTyped : Bool) → TokenNot (layoutThenType isLaid isTyped)
-token-not true true = tt
-token-not true false = λ e. apart (cc)
-token-not false isTyped = λ e. apart (cc)
+token-not : TokenFaults ReasonNot
+token-not = record { reserved = λ bit h e. apart (cc); modifier = λ e. apart (cc); relative = λ e. apart (cc); register = λ e. apart (cc) }
 
 -- places that are not free take a token each
 module _ (v : Version) where
   one-not : (t : Token) (offset : ℕ) (next : ℕ → Operands) → TokenNot t → OperandsNot (next 1) → OperandsNot (onTaken (onToken t offset (Took 1)) next)
   one-not good offset next h j = j
-  one-not (bad reason) offset next h j = h
+  one-not (bad reason bit) offset next h j = h
 
   operands-not : (places : List Place) (offset : ℕ) (tokens : List ℕ) → noneFree places ≡ true → length tokens ≡ length places →
       OperandsNot (operands v places offset tokens)
-  unfolding operands operand tokenAt
+  unfolding operands operand
   operands-not [] offset [] f h = tt
   operands-not [] offset (token ∷ rest) f h = absurd (omega arith)
   operands-not (place ∷ places) offset [] f h = absurd (omega arith)
   operands-not (place ∷ places) offset (token ∷ rest) f h =
       rw (not-true (isFree place) (both-left (not (isFree place)) _ f))
       (one-not (tokenAt v place token) offset (λ n. operands v places (offset + n) (drop n (token ∷ rest)))
-      (token-not (laid v place token) (typed v place (typeOf token)))
+      (of-token ReasonNot token-not v place token)
       (operands-not places (offset + 1) rest (both-right (not (isFree place)) _ f) (omega arith)))
 
-  declared-not : (t : Token) (isLaid : Bool) → TokenNot t → OperandsNot (onDeclared t (pick isLaid (leftOver []) (refusedOperands OPERAND 1)))
-  declared-not good true h = tt
-  declared-not good false h = λ e. apart (cc)
-  declared-not (bad reason) isLaid h = h
+  declared-not : (t u : Token) → TokenNot t → TokenNot u → OperandsNot (onDeclared t 2 (onDeclared u 1 (leftOver [])))
+  declared-not good good h j = tt
+  declared-not good (bad reason bit) h j = j
+  declared-not (bad reason bit) u h j = h
 
   declaration-not : (tokens : List ℕ) → length tokens ≡ 2 → OperandsNot (declaration v tokens)
   unfolding declaration
   declaration-not [] h = absurd (omega arith)
   declaration-not (u ∷ []) h = absurd (omega arith)
   declaration-not (u ∷ (d ∷ [])) h =
-      declared-not (declaredAt v d) (usageLaid v (typeOf d) u) (token-not (laid v declared d && faceLaid v d) (isDeclared v (typeOf d)))
+      declared-not (declaredAt v d) (usageAt v (typeOf d) u) (of-declared ReasonNot token-not v d) (of-usage ReasonNot token-not v (typeOf d) u)
   declaration-not (u ∷ (d ∷ (more ∷ rest))) h = absurd (omega arith)
 
 -- an instruction without a size is not predicated

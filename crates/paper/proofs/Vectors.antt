@@ -8,8 +8,9 @@ use Rattle.paper.specs.Numbers.{refusal, ToldInstruction, toldInstructio
 use Rattle.paper.specs.OpcodeTable.{rows}
 use Rattle.paper.specs.FirstVersions.{firstRows}
 use Rattle.paper.specs.Places.{entryOf, typedPlaces}
-use Rattle.paper.specs.OperandTokens.{tokenAt}
-use Rattle.paper.specs.Dcl.{declaration}
+use Rattle.paper.specs.Faults.{lowest, lowestFrom}
+use Rattle.paper.specs.OperandTokens.{faultAt, tokenAt}
+use Rattle.paper.specs.Dcl.{declaredFault, usageFault, declaration}
 use Rattle.paper.specs.Instruction.{tokenHead, operand, operands, judged}
 use Rattle.paper.specs.Blocks.{Cut, out, then, classes, classOf}
 use Rattle.paper.specs.Walk.{begin, walk}
@@ -29,11 +30,17 @@ record Vector : Type 0 where
   tokens : List ℕ
   number : ℕ
   position : ℕ
+  detail : ℕ
   takes : ℕ
 
 abbrev vector : Version → List ℕ → ℕ → ℕ → ℕ → Vector
 vector version tokens number position takes =
-    record { version = version; tokens = tokens; number = number; position = position; takes = takes }
+    record { version = version; tokens = tokens; number = number; position = position; detail = 0; takes = takes }
+
+-- a fault of a token's layout, with the bit
+abbrev fault : Version → List ℕ → ℕ → ℕ → ℕ → Vector
+fault version tokens number position bit =
+    record { version = version; tokens = tokens; number = number; position = position; detail = bit; takes = 0 }
 
 unfoldable vectors : List Vector
 vectors =
@@ -72,13 +79,13 @@ vectors =
     -- the relative token lies beyond the size
     vector V2 (0x02000001 ∷ 0x800F0000 ∷ 0xA0E42000 ∷ []) 6 0 0 ∷
     -- a reserved bit
-    vector V2 (0x02000001 ∷ 0x800F4000 ∷ 0xA0E40000 ∷ []) 7 1 0 ∷
+    fault V2 (0x02000001 ∷ 0x800F4000 ∷ 0xA0E40000 ∷ []) 16 1 14 ∷
     -- an operand before a later size
-    vector V2 (0x01000001 ∷ 0x800F4000 ∷ 0xA0E40000 ∷ []) 7 1 0 ∷
+    fault V2 (0x01000001 ∷ 0x800F4000 ∷ 0xA0E40000 ∷ []) 16 1 14 ∷
     -- bit 13 at a place that is not free
-    vector V3 (0x0300002E ∷ 0xB0012000 ∷ 0xF0E40800 ∷ 0xA0E40000 ∷ []) 7 1 0 ∷
+    fault V3 (0x0300002E ∷ 0xB0012000 ∷ 0xF0E40800 ∷ 0xA0E40000 ∷ []) 18 1 13 ∷
     -- modifier D on a constant
-    vector V2 (0x02000001 ∷ 0x800F0000 ∷ 0xADE40000 ∷ []) 7 2 0 ∷
+    fault V2 (0x02000001 ∷ 0x800F0000 ∷ 0xADE40000 ∷ []) 17 2 24 ∷
     -- modifier D with type 19 where 19 is not allowed
     vector V2 (0x02000001 ∷ 0x800F0000 ∷ 0xBDE41000 ∷ []) 8 2 0 ∷
     -- DCL with no destination
@@ -96,19 +103,19 @@ vectors =
     vector V3 (0x0200001F ∷ 0x800F000D ∷ 0xE00F0000 ∷ []) 0 0 3 ∷
     vector V2 (0x0200001F ∷ 0x800F000D ∷ 0x900F0000 ∷ []) 0 0 3 ∷
     -- usages 14 and 16
-    vector P3 (0x0200001F ∷ 0x8000000E ∷ 0x900F0000 ∷ []) 7 1 0 ∷
-    vector P3 (0x0200001F ∷ 0x80000010 ∷ 0x900F0000 ∷ []) 7 1 0 ∷
-    vector V2 (0x0200001F ∷ 0x8000000E ∷ 0x900F0000 ∷ []) 7 1 0 ∷
+    fault P3 (0x0200001F ∷ 0x8000000E ∷ 0x900F0000 ∷ []) 16 1 0 ∷
+    fault P3 (0x0200001F ∷ 0x80000010 ∷ 0x900F0000 ∷ []) 16 1 0 ∷
+    fault V2 (0x0200001F ∷ 0x8000000E ∷ 0x900F0000 ∷ []) 16 1 0 ∷
     -- a usage form with its lowest and highest reserved bits, and without bit 31
-    vector P3 (0x0200001F ∷ 0x80000020 ∷ 0x900F0000 ∷ []) 7 1 0 ∷
-    vector P3 (0x0200001F ∷ 0x80008000 ∷ 0x900F0000 ∷ []) 7 1 0 ∷
-    vector P3 (0x0200001F ∷ 0x80100000 ∷ 0xB00F0000 ∷ []) 7 1 0 ∷
-    vector P3 (0x0200001F ∷ 0xC0000000 ∷ 0xB00F0000 ∷ []) 7 1 0 ∷
-    vector P3 (0x0200001F ∷ 0x0001000A ∷ 0x900F0000 ∷ []) 7 1 0 ∷
+    fault P3 (0x0200001F ∷ 0x80000020 ∷ 0x900F0000 ∷ []) 16 1 5 ∷
+    fault P3 (0x0200001F ∷ 0x80008000 ∷ 0x900F0000 ∷ []) 16 1 15 ∷
+    fault P3 (0x0200001F ∷ 0x80100000 ∷ 0xB00F0000 ∷ []) 16 1 20 ∷
+    fault P3 (0x0200001F ∷ 0xC0000000 ∷ 0xB00F0000 ∷ []) 16 1 30 ∷
+    fault P3 (0x0200001F ∷ 0x0001000A ∷ 0x900F0000 ∷ []) 16 1 31 ∷
     -- a usage where the form is plain
-    vector P2 (0x0200001F ∷ 0x80000005 ∷ 0x900F0000 ∷ []) 7 1 0 ∷
-    vector P2 (0x0200001F ∷ 0x8001000A ∷ 0xB00F0000 ∷ []) 7 1 0 ∷
-    vector P3 (0x0200001F ∷ 0x80000005 ∷ 0x900F1000 ∷ []) 7 1 0 ∷
+    fault P2 (0x0200001F ∷ 0x80000005 ∷ 0x900F0000 ∷ []) 16 1 0 ∷
+    fault P2 (0x0200001F ∷ 0x8001000A ∷ 0xB00F0000 ∷ []) 16 1 1 ∷
+    fault P3 (0x0200001F ∷ 0x80000005 ∷ 0x900F1000 ∷ []) 16 1 0 ∷
     -- type 6 is declared in V3 alone
     vector P3 (0x0200001F ∷ 0x80000005 ∷ 0xE00F0000 ∷ []) 8 2 0 ∷
     -- dcl vPos.xy
@@ -116,11 +123,11 @@ vectors =
     -- dcl vFace
     vector P3 (0x0200001F ∷ 0x80000000 ∷ 0x900F1001 ∷ []) 0 0 3 ∷
     -- face with another mask than F
-    vector P3 (0x0200001F ∷ 0x80000000 ∷ 0x90011001 ∷ []) 7 2 0 ∷
+    fault P3 (0x0200001F ∷ 0x80000000 ∷ 0x90011001 ∷ []) 16 2 16 ∷
     -- face with bit 20
-    vector P3 (0x0200001F ∷ 0x80000000 ∷ 0x901F1001 ∷ []) 7 2 0 ∷
+    fault P3 (0x0200001F ∷ 0x80000000 ∷ 0x901F1001 ∷ []) 16 2 20 ∷
     -- type 17 with number 2
-    vector P3 (0x0200001F ∷ 0x80000000 ∷ 0x900F1002 ∷ []) 7 2 0 ∷
+    fault P3 (0x0200001F ∷ 0x80000000 ∷ 0x900F1002 ∷ []) 16 2 0 ∷
     -- type 17 is declared in P3 alone
     vector P2 (0x0200001F ∷ 0x80000000 ∷ 0x900F1000 ∷ []) 8 2 0 ∷
     -- mov r0, vPos
@@ -134,9 +141,9 @@ vectors =
     -- dcl_volume s1
     vector V3 (0x0200001F ∷ 0xA0000000 ∷ 0xA00F0801 ∷ []) 0 0 3 ∷
     -- texture type 1
-    vector P2 (0x0200001F ∷ 0x88000000 ∷ 0xA00F0800 ∷ []) 7 1 0 ∷
+    fault P2 (0x0200001F ∷ 0x88000000 ∷ 0xA00F0800 ∷ []) 16 1 27 ∷
     -- texture type 5
-    vector P3 (0x0200001F ∷ 0xA8000000 ∷ 0xA00F0800 ∷ []) 7 1 0 ∷
+    fault P3 (0x0200001F ∷ 0xA8000000 ∷ 0xA00F0800 ∷ []) 16 1 27 ∷
     -- a sampler in V2
     vector V2 (0x0200001F ∷ 0x90000000 ∷ 0xA00F0800 ∷ []) 8 2 0 ∷
     -- the second source of TEX is no sampler
@@ -176,7 +183,7 @@ vectors =
     -- callnz l0, p0 in V2
     vector V2 (0x0200001A ∷ 0xA0E41000 ∷ 0xB0E41000 ∷ []) 8 2 0 ∷
     -- callnz l0, !b0
-    vector V3 (0x0200001A ∷ 0xA0E41000 ∷ 0xEDE40800 ∷ []) 7 2 0 ∷
+    fault V3 (0x0200001A ∷ 0xA0E41000 ∷ 0xEDE40800 ∷ []) 17 2 24 ∷
     -- loop aL, i0
     vector V3 (0x0200001B ∷ 0xF0E40800 ∷ 0xF0E40000 ∷ []) 0 0 3 ∷
     -- i0 before aL
@@ -196,7 +203,7 @@ vectors =
     -- (!p0) mov r0, r1
     vector P3 (0x13000001 ∷ 0x800F0000 ∷ 0xBDE41000 ∷ 0x80E40001 ∷ []) 0 0 4 ∷
     -- the predicate with modifier 1
-    vector V3 (0x13000001 ∷ 0x800F0000 ∷ 0xB1E41000 ∷ 0xA0E40000 ∷ []) 7 2 0 ∷
+    fault V3 (0x13000001 ∷ 0x800F0000 ∷ 0xB1E41000 ∷ 0xA0E40000 ∷ []) 17 2 24 ∷
     -- (p0) mov o0[a0.x], c0
     vector V3 (0x14000001 ∷ 0xE00F2000 ∷ 0xB0000000 ∷ 0xB0E41000 ∷ 0xA0E40000 ∷ []) 0 0 5 ∷
     -- the predicate before the destination's relative token
@@ -208,7 +215,7 @@ vectors =
     -- (p0) texldd r0, c0[aL], s0, c0[aL], c0[aL]
     vector P3 (0x1900005D ∷ 0x800F0000 ∷ 0xB0E41000 ∷ 0xA0E42000 ∷ 0xF0E40800 ∷ 0xA0E40800 ∷ 0xA0E42000 ∷ 0xF0E40800 ∷ 0xA0E42000 ∷ 0xF0E40800 ∷ []) 0 0 10 ∷
     -- the predicate last: the first source stands in its place, by its layout and by its type
-    vector V3 (0x13000001 ∷ 0x800F0000 ∷ 0xA1E40000 ∷ 0xB0E41000 ∷ []) 7 2 0 ∷
+    fault V3 (0x13000001 ∷ 0x800F0000 ∷ 0xA1E40000 ∷ 0xB0E41000 ∷ []) 17 2 24 ∷
     vector V3 (0x13000001 ∷ 0x800F0000 ∷ 0xA0E40000 ∷ 0xB0E41000 ∷ []) 8 2 0 ∷
     -- the predicate behind the first source
     vector V3 (0x14000002 ∷ 0x800F0000 ∷ 0x80E40000 ∷ 0xB0E41000 ∷ 0x80E40001 ∷ []) 8 2 0 ∷
@@ -224,13 +231,13 @@ vectors =
     -- mov o0[aL], r0
     vector V3 (0x03000001 ∷ 0xE00F2000 ∷ 0xF0E40800 ∷ 0x80E40000 ∷ []) 0 0 4 ∷
     -- a relative destination in P3
-    vector P3 (0x03000001 ∷ 0x800F2000 ∷ 0xF0E40800 ∷ 0x80E40000 ∷ []) 7 1 0 ∷
+    fault P3 (0x03000001 ∷ 0x800F2000 ∷ 0xF0E40800 ∷ 0x80E40000 ∷ []) 18 1 13 ∷
     -- mov r0, c0[aL]
     vector P3 (0x03000001 ∷ 0x800F0000 ∷ 0xA0E42000 ∷ 0xF0E40800 ∷ []) 0 0 4 ∷
     -- c0[a0.x] in P3
     vector P3 (0x03000001 ∷ 0x800F0000 ∷ 0xA0E42000 ∷ 0xB0000000 ∷ []) 8 3 0 ∷
     -- a relative source in P2
-    vector P2 (0x03000001 ∷ 0x800F0000 ∷ 0xA0E42000 ∷ 0xF0E40800 ∷ []) 7 2 0 ∷
+    fault P2 (0x03000001 ∷ 0x800F0000 ∷ 0xA0E42000 ∷ 0xF0E40800 ∷ []) 18 2 13 ∷
     -- document 02, Q-4. mov r0, c0 without a size; with one, with bit 28, 29, 31, with controls
     vector V1 (0x00000001 ∷ 0x800F0000 ∷ 0xA0E40000 ∷ 0x0000FFFF ∷ []) 0 0 3 ∷
     vector V1 (0x02000001 ∷ 0x800F0000 ∷ 0xA0E40000 ∷ 0x0000FFFF ∷ []) 4 0 0 ∷
@@ -249,30 +256,30 @@ vectors =
     vector P11 (0x4001FFFE ∷ 0x00000000 ∷ 0x0000FFFF ∷ []) 5 0 0 ∷
     -- the operands pass the end; END is taken for an operand
     vector V1 (0x00000001 ∷ 0x800F0000 ∷ []) 5 0 0 ∷
-    vector V1 (0x00000001 ∷ 0x800F0000 ∷ 0x0000FFFF ∷ []) 7 2 0 ∷
+    fault V1 (0x00000001 ∷ 0x800F0000 ∷ 0x0000FFFF ∷ []) 16 2 31 ∷
     -- add oPos, c0[a0.x], v0: no token follows bit 13; at any source, at no destination
     vector V1 (0x00000002 ∷ 0xC00F0000 ∷ 0xA0E42000 ∷ 0x90E40000 ∷ 0x0000FFFF ∷ []) 0 0 4 ∷
     vector V1 (0x00000002 ∷ 0xC00F0000 ∷ 0xA0E40000 ∷ 0x90E42000 ∷ 0x0000FFFF ∷ []) 0 0 4 ∷
-    vector V1 (0x00000001 ∷ 0x800F2000 ∷ 0xA0E40000 ∷ 0x0000FFFF ∷ []) 7 1 0 ∷
-    vector P14 (0x00000001 ∷ 0x800F0000 ∷ 0xA0E42000 ∷ 0x0000FFFF ∷ []) 7 2 0 ∷
+    fault V1 (0x00000001 ∷ 0x800F2000 ∷ 0xA0E40000 ∷ 0x0000FFFF ∷ []) 18 1 13 ∷
+    fault P14 (0x00000001 ∷ 0x800F0000 ∷ 0xA0E42000 ∷ 0x0000FFFF ∷ []) 18 2 13 ∷
     -- the shift scale, on DEF and TEX too; in vs_1_1 and in 2_0
     vector P11 (0x00000001 ∷ 0x810F0000 ∷ 0xA0E40000 ∷ 0x0000FFFF ∷ []) 0 0 3 ∷
     vector P11 (0x00000001 ∷ 0x870F0000 ∷ 0xA0E40000 ∷ 0x0000FFFF ∷ []) 0 0 3 ∷
     vector P14 (0x00000051 ∷ 0xAF0F0000 ∷ 0x00000000 ∷ 0x00000000 ∷ 0x00000000 ∷ 0x00000000 ∷ []) 0 0 6 ∷
     vector P13 (0x00000042 ∷ 0xB10F0000 ∷ 0x0000FFFF ∷ []) 0 0 2 ∷
-    vector V1 (0x00000001 ∷ 0x810F0000 ∷ 0xA0E40000 ∷ 0x0000FFFF ∷ []) 7 1 0 ∷
-    vector P2 (0x02000001 ∷ 0x810F0000 ∷ 0xA0E40000 ∷ 0x0000FFFF ∷ []) 7 1 0 ∷
+    fault V1 (0x00000001 ∷ 0x810F0000 ∷ 0xA0E40000 ∷ 0x0000FFFF ∷ []) 16 1 24 ∷
+    fault P2 (0x02000001 ∷ 0x810F0000 ∷ 0xA0E40000 ∷ 0x0000FFFF ∷ []) 16 1 24 ∷
     -- modifier 7, and A; B, with bits 21 and 22 of the destination; D
-    vector P13 (0x00000001 ∷ 0x800F0000 ∷ 0xA7E40000 ∷ 0x0000FFFF ∷ []) 7 2 0 ∷
+    fault P13 (0x00000001 ∷ 0x800F0000 ∷ 0xA7E40000 ∷ 0x0000FFFF ∷ []) 17 2 24 ∷
     vector P14 (0x00000001 ∷ 0x800F0000 ∷ 0xA7E40000 ∷ 0x0000FFFF ∷ []) 0 0 3 ∷
     vector P14 (0x00000001 ∷ 0x800F0000 ∷ 0xAAE40000 ∷ 0x0000FFFF ∷ []) 0 0 3 ∷
-    vector P2 (0x02000001 ∷ 0x800F0000 ∷ 0xAAE40000 ∷ 0x0000FFFF ∷ []) 7 2 0 ∷
+    fault P2 (0x02000001 ∷ 0x800F0000 ∷ 0xAAE40000 ∷ 0x0000FFFF ∷ []) 17 2 24 ∷
     vector P11 (0x00000001 ∷ 0x806F0000 ∷ 0x8BE40000 ∷ 0x0000FFFF ∷ []) 0 0 3 ∷
-    vector P14 (0x00000001 ∷ 0x800F0000 ∷ 0xADE40000 ∷ 0x0000FFFF ∷ []) 7 2 0 ∷
+    fault P14 (0x00000001 ∷ 0x800F0000 ∷ 0xADE40000 ∷ 0x0000FFFF ∷ []) 17 2 24 ∷
     -- tex t0; texld r0, t0, and a sampler behind it is no operand; texcoord t0; texcrd r0, t0
     vector P11 (0x00000042 ∷ 0xB00F0000 ∷ 0x0000FFFF ∷ []) 0 0 2 ∷
     vector P14 (0x00000042 ∷ 0x800F0000 ∷ 0xB0E40000 ∷ 0xA0E40800 ∷ 0x0000FFFF ∷ []) 0 0 3 ∷
-    vector P14 (0x00000042 ∷ 0x800F0000 ∷ 0x0000FFFF ∷ []) 7 2 0 ∷
+    fault P14 (0x00000042 ∷ 0x800F0000 ∷ 0x0000FFFF ∷ []) 16 2 31 ∷
     vector P13 (0x00000040 ∷ 0xB00F0000 ∷ 0x0000FFFF ∷ []) 0 0 2 ∷
     vector P14 (0x00000040 ∷ 0x800F0000 ∷ 0xB0E40000 ∷ 0x0000FFFF ∷ []) 0 0 3 ∷
     vector P14 (0x00000040 ∷ 0x800F0000 ∷ 0x80E40000 ∷ 0x0000FFFF ∷ []) 8 2 0 ∷
@@ -307,17 +314,53 @@ vectors =
     vector P12 (0x00000009 ∷ 0x800F0000 ∷ 0xA0E40000 ∷ 0xA0E40000 ∷ 0x0000FFFF ∷ []) 0 0 4 ∷
     -- m4x4 r0, v0, r0
     vector V1 (0x00000014 ∷ 0x800F0000 ∷ 0x90E40000 ∷ 0x80E40000 ∷ 0x0000FFFF ∷ []) 0 0 4 ∷
+    -- reserved bits before bit 13, bit 13 before the modifier, the modifier
+    fault P2 (0x02000001 ∷ 0x800F0800 ∷ 0xA7E4E000 ∷ []) 16 2 14 ∷
+    fault P2 (0x02000001 ∷ 0x800F0800 ∷ 0xA7E42000 ∷ []) 18 2 13 ∷
+    fault P2 (0x02000001 ∷ 0x800F0800 ∷ 0xA7E40000 ∷ []) 17 2 24 ∷
+    -- the modifier of a relative token, and its reserved bits
+    fault V2 (0x03000001 ∷ 0x800F0000 ∷ 0xA0E42000 ∷ 0xB2000000 ∷ []) 17 3 24 ∷
+    fault V2 (0x03000001 ∷ 0x800F0000 ∷ 0xA0E42000 ∷ 0xB200A000 ∷ []) 16 3 15 ∷
+    fault V2 (0x03000001 ∷ 0x800F0000 ∷ 0xA0E42000 ∷ 0xB2002000 ∷ []) 18 3 13 ∷
+    -- type 17's rules before bit 13, and the lowest of all
+    fault P3 (0x0200001F ∷ 0x80000000 ∷ 0x900F3002 ∷ []) 16 2 0 ∷
+    fault P3 (0x0200001F ∷ 0x80000000 ∷ 0x900F7002 ∷ []) 16 2 0 ∷
+    fault P3 (0x0200001F ∷ 0x80000000 ∷ 0x90071001 ∷ []) 16 2 16 ∷
+    fault P3 (0x0200001F ∷ 0x80000000 ∷ 0x91071001 ∷ []) 16 2 16 ∷
+    fault P3 (0x0200001F ∷ 0x80000000 ∷ 0x90075001 ∷ []) 16 2 14 ∷
+    fault P3 (0x0200001F ∷ 0x80000000 ∷ 0x900F1400 ∷ []) 16 2 0 ∷
+    fault P3 (0x0200001F ∷ 0x80000000 ∷ 0x908F1001 ∷ []) 16 2 23 ∷
+    fault P3 (0x0200001F ∷ 0x80000000 ∷ 0x900F3001 ∷ []) 18 2 13 ∷
+    -- of a destination in a vertex version
+    fault V2 (0x02000001 ∷ 0x804F0000 ∷ 0xA0E40000 ∷ []) 16 1 22 ∷
+    fault V2 (0x02000001 ∷ 0x810F0000 ∷ 0xA0E40000 ∷ []) 16 1 24 ∷
+    fault V2 (0x02000001 ∷ 0x808F8000 ∷ 0xA0E40000 ∷ []) 16 1 15 ∷
+    -- bit 31 before all others
+    fault V2 (0x02000001 ∷ 0x000F4000 ∷ 0xA0E40000 ∷ []) 16 1 31 ∷
+    fault V2 (0x0200001F ∷ 0x0000001F ∷ 0x900F0000 ∷ []) 16 1 31 ∷
+    -- U: the lowest bit of all, a usage and a texture type by their lowest bits, and bit 13 is reserved
+    fault P3 (0x0200001F ∷ 0x8000002E ∷ 0x900F0000 ∷ []) 16 1 0 ∷
+    fault P3 (0x0200001F ∷ 0x80000000 ∷ 0xA00F0800 ∷ []) 16 1 27 ∷
+    fault P3 (0x0200001F ∷ 0x90000001 ∷ 0xA00F0800 ∷ []) 16 1 0 ∷
+    fault P3 (0x0200001F ∷ 0xA8000100 ∷ 0xA00F0800 ∷ []) 16 1 8 ∷
+    fault V2 (0x0200001F ∷ 0x80002000 ∷ 0x900F0000 ∷ []) 16 1 13 ∷
+    fault V2 (0x0200001F ∷ 0x80006000 ∷ 0x900F0000 ∷ []) 16 1 13 ∷
+    fault P2 (0x0200001F ∷ 0xC0000000 ∷ 0x900F0000 ∷ []) 16 1 30 ∷
+    -- the destination of a DCL before U
+    fault P3 (0x0200001F ∷ 0x80000020 ∷ 0x900F4000 ∷ []) 16 2 14 ∷
     []
 
 abbrev tells : ToldInstruction → Vector → Bool
-tells told row = eqb (told .number) (row .number) && (eqb (told .position) (row .position) && eqb (told .takes) (row .takes))
+tells told row =
+    eqb (told .number) (row .number)
+    && (eqb (told .position) (row .position) && (eqb (told .detail) (row .detail) && eqb (told .takes) (row .takes)))
 
 abbrev allTell : List Vector → Bool
 allTell [] = true
 allTell (row ∷ more) = tells (toldInstruction (judged (row .version) (row .tokens))) row && allTell more
 
 vectors-hold : allTell vectors ≡ true
-unfolding vectors judged tokenHead operand operands declaration tokenAt typedPlaces entryOf rows firstRows classOf classes toldInstruction
+unfolding vectors judged tokenHead operand operands declaration tokenAt faultAt declaredFault usageFault lowest lowestFrom typedPlaces entryOf rows firstRows classOf classes toldInstruction
 vectors-hold = refl
 
 -- a cut of instructions of one token each, from a position on

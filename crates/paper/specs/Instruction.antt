@@ -7,7 +7,7 @@ use lib.Dec.{eqb, leb}
 use lib.ListN.{length, take, drop}
 use Rattle.paper.specs.Notation.{pick}
 use Rattle.paper.specs.Versions.{hasSizes}
-use Rattle.paper.specs.Numbers.{refusal}
+use Rattle.paper.specs.Numbers.{refusal, refusalAtBit}
 use Rattle.paper.specs.OpcodeTable.{DCL}
 use Rattle.paper.specs.Places.{Place, relative, Entry, absent, listed, entryOf}
 use Rattle.paper.specs.InstructionToken.{opcodeOf, statedSize, isPredicated, withPredicate, bitsLaid, commentOpcode, commentLength, commentLaid, endOpcode, endToken}
@@ -57,7 +57,7 @@ tokenHead v token =
 -- an operand takes one or two of the tokens that are left, or is refused
 abbrev pub onToken : Token → ℕ → Taken → Taken
 onToken good offset next = next
-onToken (bad reason) offset next = refused (refusal reason offset)
+onToken (bad reason bit) offset next = refused (refusalAtBit reason offset bit)
 
 abbrev pub relativeToken : Version → ℕ → List ℕ → Taken
 relativeToken v offset [] = refused (refusal SIZE 0)

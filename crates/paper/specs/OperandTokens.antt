@@ -1,15 +1,16 @@
--- Document 01, "Operand tokens", with document 02's Q-4.
+-- Document 01, "Operand tokens", with document 02's Q-3 and Q-4.
 use Prim.Native.Nat.{ℕ, _+_, _*_}
 use mathlib.Core.Bool.{Bool, true, false, _&&_, _||_}
-use mathlib.Core.List.{List, [], _∷_}
+use mathlib.Core.List.{List, [], _∷_, _++_}
 use lib.Dec.{eqb}
 use Rattle.paper.specs.Notation.{bits, bit, pick, among}
 use Rattle.paper.specs.Versions.{has, isPixel, hasPredicates}
 use Rattle.paper.specs.Numbers.{refusal}
-use Rattle.paper.specs.Places.{Types, free, only, Place, raw, usage, declared, destination, source, condition, predicate, relative, isDestination, isSource}
+use Rattle.paper.specs.Faults.{span, offends, faultBy}
+use Rattle.paper.specs.Places.{Types, free, only, Place, raw, usage, declared, destination, source, condition, predicate, relative, isRaw, isDestination, isSource}
 use Rattle.paper.specs.declared.Version.{Version}
 use Rattle.paper.specs.declared.Reason.{Reason}
-use Rattle.paper.specs.declared.Reason.the-variants.{Size as SIZE, Operand as OPERAND, Register as REGISTER}
+use Rattle.paper.specs.declared.Reason.the-variants.{Size as SIZE, Register as REGISTER}
 use Rattle.paper.specs.declared.Operands.{Operands}
 use Rattle.paper.specs.declared.Operands.the-variants.{Fit, Refused}
 use Rattle.paper.specs.declared.Token.{Token}
@@ -90,12 +91,12 @@ abbrev pub sourceModifier : Version → ℕ → ℕ → Bool
 sourceModifier v modifier type =
     among modifier plainModifiers || ((hasFurther v && among modifier furtherModifiers) || negated modifier type)
 
--- the relative token's modifier is zero, as a destination's; the predicate's "modifier 0 or D"
+-- the relative token's modifier is zero; the predicate's "modifier 0 or D"; a destination has none
 abbrev pub modifierLaid : Version → Place → ℕ → ℕ → Bool
 modifierLaid v raw modifier type = true
 modifierLaid v usage modifier type = true
-modifierLaid v declared modifier type = eqb modifier 0
-modifierLaid v (destination types) modifier type = eqb modifier 0
+modifierLaid v declared modifier type = true
+modifierLaid v (destination types) modifier type = true
 modifierLaid v (source types) modifier type = sourceModifier v modifier type
 modifierLaid v condition modifier type = sourceModifier v modifier type
 modifierLaid v predicate modifier type = eqb modifier 0 || negated modifier type
@@ -151,14 +152,29 @@ typed v condition type = among type (conditionTypes v)
 typed v predicate type = among type predicateTypes
 typed v relative type = among type (relativeTypes v)
 
--- "each token: layout, then type"
-abbrev pub layoutThenType : Bool → Bool → Token
-layoutThenType true true = Good
-layoutThenType true false = Bad REGISTER
-layoutThenType false typed = Bad OPERAND
+-- Document 02, Q-3, the bits that "must be zero": of a destination 15:14, 23, in vertex versions 22:21, and 27:24 where there is no shift scale;
+-- of any other token 15:14. Bit 13 is told as RELATIVE, and bits 27:24 of a source as MODIFIER.
+abbrev pub writtenZeros : Version → List ℕ
+writtenZeros v = span 15 14 ++ (pick (isPixel v) [] (span 22 21) ++ (span 23 23 ++ pick (hasShiftScale v) [] (span 27 24)))
+
+abbrev pub zerosAt : Version → Place → List ℕ
+zerosAt v place = pick (isDestination place) (writtenZeros v) (span 15 14)
+
+-- what is wrong with the layout of a token at its place: nothing of R and of U, which is told of beside its destination
+unfoldable pub faultAt : Version → Place → ℕ → Token
+faultAt v place token =
+    pick (isRaw place) Good
+    (faultBy token (offends (zerosAt v place) [] token) (relativeLaid v place token) (modifierLaid v place (modifierOf token) (typeOf token)))
+
+-- "each token: layout, then type"; where the layout is not right its fault is told
+abbrev pub byType : Bool → Token
+byType isTyped = pick isTyped Good (Bad REGISTER 0)
+
+abbrev pub layoutThenType : Bool → Bool → Token → Token
+layoutThenType isLaid isTyped fault = pick isLaid (byType isTyped) fault
 
 unfoldable pub tokenAt : Version → Place → ℕ → Token
-tokenAt v place token = layoutThenType (laid v place token) (typed v place (typeOf token))
+tokenAt v place token = layoutThenType (laid v place token) (typed v place (typeOf token)) (faultAt v place token)
 
 -- "One relative token then follows": at a free place alone; elsewhere bit 13 is zero, or "brings no extra token"
 abbrev pub bringsRelative : Place → ℕ → Bool

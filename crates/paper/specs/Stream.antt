@@ -6,7 +6,7 @@ use lib.Dec.{leb}
 use lib.ListN.{length, drop, getD}
 use Rattle.paper.specs.Notation.{pick}
 use Rattle.paper.specs.Versions.{named}
-use Rattle.paper.specs.Numbers.{refusal, ToldVerdict, told}
+use Rattle.paper.specs.Numbers.{refusal, movedBy, ToldVerdict, told}
 use Rattle.paper.specs.Instruction.{judged}
 use Rattle.paper.specs.Blocks.{Cut, out, wrong, then}
 use Rattle.paper.specs.Walk.{begin, walk}
@@ -22,7 +22,7 @@ use Rattle.paper.specs.declared.Verdict.the-variants.{Refused as no-verd
 -- the instruction at a position, and what follows it
 abbrev pub cutOne : Judged → ℕ → (ℕ → Cut) → Cut
 cutOne (Good size class) p rest = then class p (rest (suc size))
-cutOne (Refused r) p rest = wrong p (refusal (r .reason) (p + r .position))
+cutOne (Refused r) p rest = wrong p (movedBy (λ q. p + q) r)
 
 -- tokens from position p on, cut into instructions; the first number bounds how many there are
 unfoldable pub cutting : ℕ → Version → List ℕ → ℕ → Cut

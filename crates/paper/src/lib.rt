@@ -35,7 +35,7 @@ pub enum Named {
     Unknown,
 }
 
-// "The numbers given back", by name.
+// "The numbers given back", by name, and those of document 02.
 pub enum Reason {
     Length,
     Version,
@@ -43,7 +43,6 @@ pub enum Reason {
     Bits,
     RunOut,
     Size,
-    Operand,
     Register,
     Block,
     Depth,
@@ -51,14 +50,21 @@ pub enum Reason {
     Place,
     Room,
     Record,
+    Reserved,
+    Modifier,
+    Relative,
 }
 
 // The numbers of the faults that are told of operands.
 pub const SIZE: u32 = 6;
 
-pub const OPERAND: u32 = 7;
-
 pub const REGISTER: u32 = 8;
+
+pub const RESERVED: u32 = 16;
+
+pub const MODIFIER: u32 = 17;
+
+pub const RELATIVE: u32 = 18;
 
 pub fn number_of(reason: Reason) -> u32
     ensures { λ r. ⌜ r ≡ numberOf reason ⌝ }
@@ -70,7 +76,6 @@ pub fn number_of(reason: Reason) -> u32
         Reason::Bits => 4,
         Reason::RunOut => 5,
         Reason::Size => SIZE,
-        Reason::Operand => OPERAND,
         Reason::Register => REGISTER,
         Reason::Block => 9,
         Reason::Depth => 10,
@@ -78,13 +83,17 @@ pub fn number_of(reason: Reason) -> u32
         Reason::Place => 12,
         Reason::Room => 13,
         Reason::Record => 14,
+        Reason::Reserved => RESERVED,
+        Reason::Modifier => MODIFIER,
+        Reason::Relative => RELATIVE,
     }
 }
 
-// A refusal: why, and the position of a token.
+// A refusal: why, the position of a token, and what the number says besides, of an operand's layout the lowest offending bit; else 0.
 pub struct Refusal {
     pub reason: Reason,
     pub position: usize,
+    pub detail: usize,
 }
 
 // "an item is one instruction or a block": what an instruction is to the blocks around it.
@@ -117,10 +126,10 @@ pub enum Class {
     Closes(Closer),
 }
 
-// One token, judged at its place.
+// One token, judged at its place: good, or why not, and the bit.
 pub enum Token {
     Good,
-    Bad(Reason),
+    Bad(Reason, usize),
 }
 
 // One operand, judged: how many tokens it takes.

@@ -4,7 +4,8 @@ use mathlib.Core.List.{List, [], _∷_}
 use Prim.Native.Nat.{ℕ}
 use Rattle.paper.specs.OpcodeTable.{rows}
 use Rattle.paper.specs.FirstVersions.{firstRows}
-use Rattle.paper.specs.OperandTokens.{tokenAt}
+use Rattle.paper.specs.Faults.{lowestFrom, lowest}
+use Rattle.paper.specs.OperandTokens.{faultAt, tokenAt}
 use Rattle.paper.specs.Dcl.{declaration}
 use Rattle.paper.specs.Blocks.{classOf}
 use Rattle.paper.specs.Instruction.{tokenHead, operand, operands, judged}
@@ -18,10 +19,13 @@ tells : ℕ → List ℕ → ℕ → ToldReading
 tells version tokens at = toldReading (reading version tokens at)
 
 yes : ℕ → Record → ToldReading
-yes next instruction = record { number = 0; position = 0; next = next; instruction = instruction }
+yes next instruction = record { number = 0; position = 0; detail = 0; next = next; instruction = instruction }
+
+abbrev atBit : ℕ → ℕ → ℕ → ToldReading
+atBit number position bit = record { number = number; position = position; detail = bit; next = 0; instruction = noRecord }
 
 no : ℕ → ℕ → ToldReading
-no number position = record { number = number; position = position; next = 0; instruction = noRecord }
+no number position = atBit number position 0
 
 -- a register, and the register that it is relative to
 abbrev register : ℕ → ℕ → ℕ → ℕ → ℕ → ℕ → ℕ → ℕ → ℕ → Operand
@@ -104,7 +108,7 @@ comment-and-end-read = refl
 -- another version; a place at the end and one past it; a refusal inside an instruction
 refused-read :
     tells 0xFFFE0201 mov 1 ∷ tells 0xFFFE0200 mov 5 ∷ tells 0xFFFE0200 mov 9 ∷ tells 0xFFFE0200 [] 0 ∷
-    tells 0xFFFE0200 (0 ∷ 0x02000001 ∷ 0x800F4000 ∷ 0xA0E40000 ∷ []) 1 ∷ [] ≡
-    no 2 0 ∷ no 5 5 ∷ no 5 5 ∷ no 5 0 ∷ no 7 2 ∷ []
-unfolding tells no mov rows entryOf typedPlaces tokenAt declaration classOf tokenHead operand operands judged recordOf readingAt reading toldReading
+    tells 0xFFFE0200 (0 ∷ 0x02000001 ∷ 0x800F4000 ∷ 0xA0E40000 ∷ []) 1 ∷ tells 0xFFFE0200 (0 ∷ 0x02000001 ∷ 0x800F0000 ∷ 0xA7E40000 ∷ []) 1 ∷ [] ≡
+    no 2 0 ∷ no 5 5 ∷ no 5 5 ∷ no 5 0 ∷ atBit 16 2 14 ∷ atBit 17 3 24 ∷ []
+unfolding tells no mov rows entryOf typedPlaces lowestFrom lowest faultAt tokenAt declaration classOf tokenHead operand operands judged recordOf readingAt reading toldReading
 refused-read = refl

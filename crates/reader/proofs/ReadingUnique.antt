@@ -22,7 +22,7 @@ told-answer (Got m) (Got n) i j e = (ap Got (ap (λ t. t .next) e), ap (λ t. t 
 told-answer (Got m) (Refused s) i j e = absurd (no-reason-zero (s .reason) (ap (λ (t : ToldReading). t .number) e))
 told-answer (Refused r) (Got n) i j e = absurd (no-reason-zero (r .reason) (sym (ap (λ (t : ToldReading). t .number) e)))
 told-answer (Refused r) (Refused s) i j e =
-    (ap Refused (same-refusal r s (ap (λ t. t .number) e) (ap (λ t. t .position) e)), ap (λ t. t .instruction) e)
+    (ap Refused (same-refusal r s (ap (λ t. t .number) e) (ap (λ t. t .position) e) (ap (λ t. t .detail) e)), ap (λ t. t .instruction) e)
 
 unfoldable reading-of : Answer → Record → Reading
 reading-of answer instruction = record { answer = answer; instruction = instruction }

@@ -8,23 +8,23 @@ use native.Mathlib.Omega.{arith}
 use lib.ListN.{length, take, drop, getD, length-drop}
 use lib.Seq.{drop-cons}
 use borrow.Author.Tests.{lt-ltb}
-use Rattle.paper.specs.Numbers.{reasonBy}
+use Rattle.paper.specs.Numbers.{reasonBy, refusalAtBit}
 use Rattle.paper.specs.Instruction.{judged}
 use Rattle.paper.specs.declared.Version.{Version}
 use Rattle.paper.specs.declared.Judged.{Judged}
 use Rattle.paper.specs.declared.Judged.the-variants.{Good as Lawful, Refused as Unlawful}
 use Rattle.paper.proofs.Bools.{apart}
-use Rattle.paper.proofs.OneInstruction.{judged-near}
+use Rattle.paper.proofs.OneInstruction.{judged-near, judged-bit}
 use Rattle.paper.proofs.OwnTokens.{good-within}
 use Rattle.shapes.specs.Classes.{classNumber}
-use Rattle.told.specs.Numbered.{judgedNumber, isRefusal, sizeIn, kindIn}
-use Rattle.told.proofs.Numbers.{yes-even, yes-size, yes-class, refusal-odd, refusal-position, refusal-reason}
+use Rattle.told.specs.Numbered.{judgedNumber, isRefusal, sizeIn, kindIn, numberIn, bitIn, positionIn}
+use Rattle.told.proofs.Numbers.{yes-even, yes-size, yes-class, refusal-odd, refusal-position, refusal-bit, refusal-reason}
 use Rattle.stretches.specs.Stretch.{toldAt}
 use Rattle.stretches.proofs.Stretches.{told-whole}
 use Rattle.records.specs.Record.{recordOf}
 use Rattle.records.specs.ByClass.{rowBy, recordBy, Readable}
 use Rattle.records.proofs.Readable.{good-read}
-use Rattle.reader.specs.Reading.{unread, got, readingAt}
+use Rattle.reader.specs.Reading.{unreadBy, got, readingAt}
 
 module _ (v : Version) (s : List ℕ) (at told : ℕ) (some : at < length s) (is : told ≡ toldAt v s 0 at) where
   -- the tokens that a good instruction takes behind its first, as the code lends them
@@ -38,8 +38,8 @@ module _ (v : Version) (s : List ℕ) (at told : ℕ) (some : at < length s) (is
     pub inside : at + 1 + sizeIn told ≤ length s
 
   pub record Unread : Type 0 where
-    pub reads : readingAt v s at ≡ unread (reasonBy (kindIn told)) (at + sizeIn told)
-    pub inside : at + sizeIn told < length s
+    pub reads : readingAt v s at ≡ unreadBy (refusalAtBit (reasonBy (numberIn told)) (at + positionIn told) (bitIn told))
+    pub inside : at + positionIn told < length s
 
   tokens : drop at s ≡ getD s at 0 ∷ drop (at + 1) s
   tokens = rw (add-one at) (drop-cons s at 0 some)
@@ -63,10 +63,12 @@ module _ (v : Version) (s : List ℕ) (at told : ℕ) (some : at < length s) (is
   unfolding readingAt
   unread-by (Lawful size class) e t f = let even = sym (yes-even size class) ∙ ap isRefusal (sym t) ∙ f in apart (cc)
   unread-by (Unlawful r) e t f =
-      let place : sizeIn told ≡ r .position = rw t (refusal-position r) in
-      let why : reasonBy (kindIn told) ≡ r .reason = rw t (refusal-reason r) in
+      let bit : r .detail < 32 = rw e at (judged-bit v (drop at s)) in
+      let place : positionIn told ≡ r .position = rw t (refusal-position r bit) in
+      let why : reasonBy (numberIn told) ≡ r .reason = rw t (refusal-reason r bit) in
+      let lowest : bitIn told ≡ r .detail = rw t (refusal-bit r bit) in
       let near : r .position ≤ length (drop at s) - 1 = rw e at (judged-near v (drop at s)) in
-      record { reads = rw (lt-ltb at (length s) some, e, place, why); inside = omega (arith, place, near, length-drop at s) }
+      record { reads = rw (lt-ltb at (length s) some, e, place, why, lowest); inside = omega (arith, place, near, length-drop at s) }
 
   pub reads-good : isRefusal told ≡ false → Got
   reads-good f = got-by (judged v (drop at s)) refl (is ∙ told-whole v s at) f

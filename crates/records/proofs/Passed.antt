@@ -1,12 +1,12 @@
 -- The tokens of operands that are judged good: what each is, and that they are there.
-use mathlib.Core.Path.{_≡_, refl}
+use mathlib.Core.Path.{_≡_, refl, sym, ap, _∙_}
 use mathlib.Core.Bool.{Bool, true, false}
 use mathlib.Core.List.{List, [], _∷_}
 use Prim.Native.Nat.{ℕ, _+_, _≤_}
 use native.Mathlib.Omega.{arith}
 use lib.ListN.{length, drop, getD, length-drop}
 use Rattle.paper.specs.Notation.{pick}
-use Rattle.paper.specs.OperandTokens.{typeOf, laid, typed, layoutThenType, tokenAt, bringsRelative, leftOver}
+use Rattle.paper.specs.OperandTokens.{typeOf, laid, typed, tokenAt, bringsRelative, leftOver}
 use Rattle.paper.specs.Instruction.{onToken, relativeToken, operand, onTaken, operands}
 use Rattle.paper.specs.declared.Version.{Version}
 use Rattle.paper.specs.declared.Token.{Token}
@@ -16,7 +16,8 @@ use Rattle.paper.specs.declared.Taken.the-variants.{Took, Refused}
 use Rattle.paper.specs.declared.Operands.the-variants.{Fit}
 use Rattle.paper.specs.Places.{Place, relative}
 use Rattle.records.specs.Record.{widthAt}
-use Rattle.paper.proofs.Bools.{apart}
+use Rattle.paper.proofs.Bools.{apart, both-left}
+use Rattle.paper.proofs.Faults.{isGood, token-good}
 use Rattle.records.specs.ByClass.{widthOf}
 
 -- an operand that takes n of the tokens that are left: they are laid out as they should be
@@ -26,13 +27,9 @@ pub record Passed (v : Version) (place : Place) (tokens : List ℕ) (n : ℕ) : 
   pub first-laid : laid v place (getD tokens 0 0) ≡ true
   pub second-laid : bringsRelative place (getD tokens 0 0) ≡ true → laid v relative (getD tokens 1 0) ≡ true
 
-pub laid-and-typed : (l t : Bool) → layoutThenType l t ≡ Good → l ≡ true
-laid-and-typed true t e = refl
-laid-and-typed false t e = apart (cc)
-
 good-laid : (v : Version) (place : Place) (token : ℕ) → tokenAt v place token ≡ Good → laid v place token ≡ true
-unfolding tokenAt
-good-laid v place token g = laid-and-typed (laid v place token) (typed v place (typeOf token)) g
+good-laid v place token g =
+    both-left (laid v place token) (typed v place (typeOf token)) (sym (token-good v place token) ∙ ap isGood g)
 
 module _ (v : Version) (place : Place) (offset n token : ℕ) (good : tokenAt v place token ≡ Good) where
   passed-relative : (follower : ℕ) (rest : List ℕ) (second : Token) → bringsRelative place token ≡ true → tokenAt v relative follower ≡ second →
@@ -41,7 +38,7 @@ module _ (v : Version) (place : Place) (offset n token : ℕ) (good : tokenAt v 
   passed-relative follower rest Good b s e =
       let two : n ≡ 2 = cc in
       record { width = rw b two; there = omega arith; first-laid = good-laid v place token good; second-laid = λ _. good-laid v relative follower s }
-  passed-relative follower rest (Bad reason) b s e = apart (cc)
+  passed-relative follower rest (Bad reason bit) b s e = apart (cc)
 
   passed-good : (brings : Bool) (rest : List ℕ) → bringsRelative place token ≡ brings →
       pick brings (relativeToken v (offset + 1) rest) (Took 1) ≡ Took n → Passed v place (token ∷ rest) n
@@ -60,7 +57,7 @@ module _ (v : Version) (place : Place) (offset n token : ℕ) (good : tokenAt v 
 passed-token : (v : Version) (place : Place) (offset n token : ℕ) (rest : List ℕ) (first : Token) → tokenAt v place token ≡ first →
     onToken first offset (pick (bringsRelative place token) (relativeToken v (offset + 1) rest) (Took 1)) ≡ Took n → Passed v place (token ∷ rest) n
 passed-token v place offset n token rest Good t e = passed-good v place offset n token t (bringsRelative place token) rest refl e
-passed-token v place offset n token rest (Bad reason) t e = apart (cc)
+passed-token v place offset n token rest (Bad reason bit) t e = apart (cc)
 
 pub passed : (v : Version) (place : Place) (offset n : ℕ) (tokens : List ℕ) → operand v place offset tokens ≡ Took n → Passed v place tokens n
 unfolding operand

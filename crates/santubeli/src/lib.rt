@@ -19,6 +19,7 @@ use writer::Written;
 pub struct Answer {
     pub number: u32,
     pub position: usize,
+    pub detail: usize,
     pub tokens: usize,
     pub instructions: usize,
 }
@@ -30,6 +31,7 @@ fn answer_of(tokens: usize, verdict: Verdict) -> Answer
         Verdict::Accepted(instructions) => Answer {
             number: 0,
             position: 0,
+            detail: 0,
             tokens,
             instructions,
         },
@@ -38,6 +40,7 @@ fn answer_of(tokens: usize, verdict: Verdict) -> Answer
             Answer {
                 number: paper::number_of(reason),
                 position: refusal.position,
+                detail: refusal.detail,
                 tokens: 0,
                 instructions: 0,
             }
@@ -65,6 +68,7 @@ pub extern "C" fn santubeli_check_tokens(tokens: &[u32]) -> Answer
 pub struct ReadAnswer {
     pub number: u32,
     pub position: usize,
+    pub detail: usize,
     pub next: usize,
     pub instruction: Record,
 }
@@ -80,6 +84,7 @@ pub extern "C" fn santubeli_read(version: u32, tokens: &[u32], at: usize) -> Rea
         reader::Answer::Got(next) => ReadAnswer {
             number: 0,
             position: 0,
+            detail: 0,
             next,
             instruction,
         },
@@ -88,6 +93,7 @@ pub extern "C" fn santubeli_read(version: u32, tokens: &[u32], at: usize) -> Rea
             ReadAnswer {
                 number: paper::number_of(reason),
                 position: refusal.position,
+                detail: refusal.detail,
                 next: 0,
                 instruction,
             }
@@ -99,6 +105,7 @@ pub extern "C" fn santubeli_read(version: u32, tokens: &[u32], at: usize) -> Rea
 pub struct NoteAnswer {
     pub number: u32,
     pub position: usize,
+    pub detail: usize,
     pub notes: u32,
     pub at: usize,
     pub comments: usize,
@@ -112,6 +119,7 @@ fn note_answer_of(noted: Noted) -> NoteAnswer
         Noted::Found(note) => NoteAnswer {
             number: 0,
             position: 0,
+            detail: 0,
             notes: note.notes,
             at: note.at,
             comments: note.comments,
@@ -122,6 +130,7 @@ fn note_answer_of(noted: Noted) -> NoteAnswer
             NoteAnswer {
                 number: paper::number_of(reason),
                 position: refusal.position,
+                detail: refusal.detail,
                 notes: 0,
                 at: 0,
                 comments: 0,
@@ -143,6 +152,7 @@ pub extern "C" fn santubeli_note(version: u32, tokens: &[u32], at: usize) -> Not
 pub struct EditAnswer {
     pub number: u32,
     pub position: usize,
+    pub detail: usize,
     pub joined: u32,
     pub tokens: usize,
 }
@@ -154,12 +164,14 @@ fn edit_answer_of(edited: Edited) -> EditAnswer
         Edited::Joined(tokens) => EditAnswer {
             number: 0,
             position: 0,
+            detail: 0,
             joined: 1,
             tokens,
         },
         Edited::Accepted(tokens) => EditAnswer {
             number: 0,
             position: 0,
+            detail: 0,
             joined: 0,
             tokens,
         },
@@ -168,6 +180,7 @@ fn edit_answer_of(edited: Edited) -> EditAnswer
             EditAnswer {
                 number: paper::number_of(reason),
                 position: refusal.position,
+                detail: refusal.detail,
                 joined: 0,
                 tokens: 0,
             }
@@ -206,14 +219,11 @@ fn write_answer_of(written: Written) -> WriteAnswer
             position: 0,
             next,
         },
-        Written::Refused(refusal) => {
-            let reason = refusal.reason;
-            WriteAnswer {
-                number: paper::number_of(reason),
-                position: refusal.position,
-                next: 0,
-            }
-        }
+        Written::Refused(reason) => WriteAnswer {
+            number: paper::number_of(reason),
+            position: 0,
+            next: 0,
+        },
     }
 }
 

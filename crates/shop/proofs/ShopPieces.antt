@@ -7,7 +7,8 @@ use lib.Dec.{eqb}
 use lib.ListN.{length}
 use Rattle.paper.specs.Numbers.{ToldVerdict}
 use Rattle.paper.specs.OpcodeTable.{rows}
-use Rattle.paper.specs.OperandTokens.{tokenAt}
+use Rattle.paper.specs.Faults.{lowestFrom, lowest}
+use Rattle.paper.specs.OperandTokens.{faultAt, tokenAt}
 use Rattle.paper.specs.Dcl.{declaration}
 use Rattle.paper.specs.Instruction.{tokenHead, operand, operands, judged}
 use Rattle.paper.specs.Blocks.{classes, classOf}
@@ -22,21 +23,28 @@ data Asked : Type 0 where
   check : Asked
   edit : ℕ → ℕ → List ℕ → Asked
 
--- an answer: its number and position; of a yes the count of instructions, or the new length; and whether it is JOINED
+-- an answer: its number, position and detail; of a yes the count of instructions, or the new length; and whether it is JOINED
 record Answer : Type 0 where
   number : ℕ
   position : ℕ
+  detail : ℕ
   value : ℕ
   joined : ℕ
 
 abbrev answer : ℕ → ℕ → ℕ → ℕ → Answer
-answer number position value joined = record { number = number; position = position; value = value; joined = joined }
+answer number position value joined = record { number = number; position = position; detail = 0; value = value; joined = joined }
+
+-- a fault of an operand's layout, with the bit
+abbrev atBit : ℕ → ℕ → ℕ → Answer
+atBit number position bit = record { number = number; position = position; detail = bit; value = 0; joined = 0 }
 
 abbrev ofCheck : ToldVerdict → Answer
-ofCheck told = answer (told .number) (told .position) (told .instructions) 0
+ofCheck told =
+    record { number = told .number; position = told .position; detail = told .detail; value = told .instructions; joined = 0 }
 
 abbrev ofEdit : ToldEdit → Answer
-ofEdit told = answer (told .number) (told .position) (told .tokens) (told .joined)
+ofEdit told =
+    record { number = told .number; position = told .position; detail = told .detail; value = told .tokens; joined = told .joined }
 
 abbrev given : List ℕ → Asked → Answer
 given tokens check = ofCheck (checked tokens)
@@ -51,7 +59,9 @@ abbrev piece : List ℕ → Asked → Answer → Piece
 piece tokens asked told = record { tokens = tokens; asked = asked; told = told }
 
 abbrev same : Answer → Answer → Bool
-same a b = eqb (a .number) (b .number) && (eqb (a .position) (b .position) && (eqb (a .value) (b .value) && eqb (a .joined) (b .joined)))
+same a b =
+    eqb (a .number) (b .number)
+    && (eqb (a .position) (b .position) && (eqb (a .detail) (b .detail) && (eqb (a .value) (b .value) && eqb (a .joined) (b .joined))))
 
 abbrev allTold : List Piece → Bool
 allTold [] = true
@@ -70,7 +80,11 @@ pieces =
     -- M, a size that passes the end
     piece (0xFFFE0200 ∷ 0x04000001 ∷ 0x800F0000 ∷ 0xA0E40000 ∷ 0x0000FFFF ∷ []) check (answer 5 1 0 0) ∷
     -- M with a reserved bit
-    piece (0xFFFE0200 ∷ 0x02000001 ∷ 0x800F4000 ∷ 0xA0E40000 ∷ 0x0000FFFF ∷ []) check (answer 7 2 0 0) ∷
+    piece (0xFFFE0200 ∷ 0x02000001 ∷ 0x800F4000 ∷ 0xA0E40000 ∷ 0x0000FFFF ∷ []) check (atBit 16 2 14) ∷
+    -- M, its source given a modifier that vs_2_0 has not
+    piece (0xFFFE0200 ∷ 0x02000001 ∷ 0x800F0000 ∷ 0xA0E40000 ∷ 0x0000FFFF ∷ []) (edit 1 4 (0x02000001 ∷ 0x800F0000 ∷ 0xA7E40000 ∷ [])) (atBit 17 3 24) ∷
+    -- M made relative at a destination
+    piece (0xFFFE0200 ∷ 0x02000001 ∷ 0x800F2000 ∷ 0xA0E40000 ∷ 0x0000FFFF ∷ []) check (atBit 18 2 13) ∷
     -- END with a stray bit
     piece (0xFFFE0200 ∷ 0x0001FFFF ∷ []) check (answer 4 1 0 0) ∷
     -- no END
@@ -88,5 +102,5 @@ pieces =
     []
 
 shop-pieces : allTold pieces ≡ true
-unfolding pieces editedIn edited meetsAtEnd standingAt standing verdict walked cutFrom cutting walk classOf classes judged tokenHead operand operands declaration tokenAt typedPlaces entryOf rows
+unfolding pieces editedIn edited meetsAtEnd standingAt standing verdict walked cutFrom cutting walk classOf classes judged tokenHead operand operands declaration tokenAt faultAt lowest lowestFrom typedPlaces entryOf rows
 shop-pieces = refl

@@ -29,7 +29,7 @@ use Rattle.told.specs.Numbered.{refusalNumber, judgedNumber, judgedFrom, isPlai
 use Rattle.stretches.specs.declared.Stretch.{Stretch}
 use Rattle.instruction.specs.Shown.{judgedWith, judgedIn}
 use Rattle.stretches.specs.Stretch.{toldAt, nextAt, PlainTo, here, past, Stretched}
-use Rattle.told.proofs.Numbers.{judged-back}
+use Rattle.told.proofs.Numbers.{good-back}
 use Rattle.instruction.proofs.Judging.{judged-none, judged-shown}
 
 -- a refusal is not plain, and a plain instruction takes tokens that are shown
@@ -186,7 +186,8 @@ plain-from told p =
     rw (even, plainly) refl
 
 pub plain-judged : (j : Judged) (told : ℕ) → told ≡ judgedNumber j → isPlain told ≡ true → j ≡ Good (sizeIn told) (One Plain)
-plain-judged j told e p = sym (ap judgedFrom e ∙ judged-back j) ∙ plain-from told p
+plain-judged (Good size class) told e p = sym (ap judgedFrom e ∙ good-back size class) ∙ plain-from told p
+plain-judged (Unfit r) told e p = absurd (odd-plain r (sym (ap isPlain e) ∙ p))
 
 -- a stretch has one answer
 module _ (v : Version) (tokens : List ℕ) (beyond stop start : ℕ) where

@@ -1,11 +1,11 @@
-// Operand tokens, judged at their places: document 01, "Operand tokens", with document 02's Q-4.
+// Operand tokens, judged at their places: document 01, "Operand tokens", with document 02's Q-3 and Q-4.
 ghost use mathlib.Core.Path.{_≡_};
 ghost use mathlib.Core.Bool.{true, false};
 ghost use mathlib.Core.List.{[], _∷_};
 ghost use Rattle.paper.specs.Notation.{pick, among};
 ghost use Rattle.versions.specs.Sets.{holds};
 ghost use Rattle.places.specs.Places.{onlyType, placeBy};
-ghost use Rattle.paper.specs.OperandTokens.{typeOf, isFree, laid, typed, layoutThenType, tokenAt, bringsRelative};
+ghost use Rattle.paper.specs.OperandTokens.{typeOf, isFree, laid, typed, byType, tokenAt, bringsRelative};
 ghost use Rattle.paper.specs.Numbers.{toldToken};
 ghost use Rattle.paper.specs.Places.{freeDestination, freeSource, relative, isRaw, isDestination};
 ghost use Rattle.tokens.specs.Plain.{plainSource, plainDestination};
@@ -125,7 +125,7 @@ fn typed_at(version: Version, place: u64, token: u32) -> bool
 
 // What is told of a token whose layout is right.
 fn told_typed(typed: bool) -> u32
-    ensures { λ r. ⌜ r ≡ toldToken (layoutThenType true typed) ⌝ }
+    ensures { λ r. ⌜ r ≡ toldToken (byType typed) ⌝ }
 {
     if typed {
         return 0;
@@ -134,7 +134,7 @@ fn told_typed(typed: bool) -> u32
 }
 
 fn told_by_type(set: u32, token: u32) -> u32
-    ensures { λ r. ⌜ r ≡ toldToken (layoutThenType true (holds set (typeOf token))) ⌝ }
+    ensures { λ r. ⌜ r ≡ toldToken (byType (holds set (typeOf token))) ⌝ }
 {
     if versions::type_in(set, token) {
         return 0;
@@ -205,7 +205,7 @@ pub fn judge_source(version: Version, token: u32) -> u32
     if layout::free_source_laid(version, token) {
         return told_by_type(versions::free_source_types(version), token);
     }
-    paper::OPERAND
+    faults::fault_at(version, places::FREE_SOURCE, token)
 }
 
 pub fn judge_destination(version: Version, token: u32) -> u32
@@ -217,7 +217,7 @@ pub fn judge_destination(version: Version, token: u32) -> u32
     if layout::free_destination_laid(version, token) {
         return told_by_type(versions::free_destination_types(version), token);
     }
-    paper::OPERAND
+    faults::fault_at(version, places::FREE_DESTINATION, token)
 }
 
 pub fn judge_relative(version: Version, token: u32) -> u32
@@ -226,7 +226,7 @@ pub fn judge_relative(version: Version, token: u32) -> u32
     if layout::relative_laid(version, token) {
         return told_typed(versions::relative_typed(version, token));
     }
-    paper::OPERAND
+    faults::fault_at(version, places::RELATIVE, token)
 }
 
 // The layout at a place of the tables that has no name. A plain token is laid out right in every version.
@@ -251,7 +251,7 @@ fn judge_tabled(version: Version, place: u64, types: u32, token: u32) -> u32
     if tabled_laid(version, place, token) {
         return told_by_type(types, token);
     }
-    paper::OPERAND
+    faults::fault_at(version, place, token)
 }
 
 // What is told of a token at any place.
@@ -274,7 +274,7 @@ pub fn judge_token(version: Version, place: u64, token: u32) -> u32
     if typed_laid(version, place, token) {
         return told_typed(typed_at(version, place, token));
     }
-    paper::OPERAND
+    faults::fault_at(version, place, token)
 }
 
 // Whether a relative token follows a token that is good at its place: at free places alone.

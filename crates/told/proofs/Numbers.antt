@@ -6,10 +6,11 @@ use native.Mathlib.Nat.{mod-eq-of-lt}
 use native.Mathlib.Omega.{arith}
 use lib.Dec.{eqb}
 use borrow.Author.Tests.{eqb-true, eqb-false, ne-eqb}
-use Rattle.paper.specs.Numbers.{numberOf, reasonBy}
+use Rattle.paper.specs.Numbers.{numberOf, reasonBy, faultOf}
 use Rattle.paper.specs.Blocks.{Cut, classPhase, beginsPhase}
 use Rattle.paper.specs.Stream.{cutOne}
 use Rattle.paper.proofs.OneToOne.{reason-back, number-few}
+use Rattle.paper.proofs.OneInstruction.{Within, ToldBit}
 use Rattle.paper.specs.declared.Single.the-variants.{Comment, Plain, Break, Label, Return, Phase}
 use Rattle.paper.specs.declared.Opener.the-variants.{If, Loop, Rep}
 use Rattle.paper.specs.declared.Closer.the-variants.{Else, EndIf, EndLoop, EndRep, End}
@@ -22,7 +23,7 @@ use Rattle.paper.specs.declared.Judged.{Judged}
 use Rattle.paper.specs.declared.Judged.the-variants.{Good, Refused}
 use Rattle.shapes.specs.Classes.{classNumber}
 use Rattle.shapes.proofs.Shapes.{class-few}
-use Rattle.told.specs.Numbered.{yesNumber, refusalNumber, judgedNumber, takenNumber, isRefusal, takenIn, sizeIn, kindIn, tellsPhase, classBy, judgedFrom}
+use Rattle.told.specs.Numbered.{yesNumber, refusalNumber, judgedNumber, takenNumber, isRefusal, takenIn, sizeIn, kindIn, tellsPhase, numberIn, bitIn, positionIn, classBy, judgedFrom}
 
 class-back : (c : Class) → classBy (classNumber c) ≡ c
 class-back (One Comment) = refl
@@ -59,22 +60,38 @@ module _ (size : ℕ) (class : Class) where
 
 module _ (r : Refusal) where
   pub refusal-odd : isRefusal (refusalNumber r) ≡ true
-  refusal-odd = let odd : (32 * (r .position) + (2 * numberOf (r .reason) + 1)) % 2 ≡ 1 = omega arith in rw odd
+  refusal-odd = let odd : refusalNumber r % 2 ≡ 1 = omega arith in rw odd
 
-  pub refusal-position : sizeIn (refusalNumber r) ≡ r .position
-  refusal-position = let few = number-few (r .reason) in omega arith
+-- of a refusal whose detail is a bit
+module _ (r : Refusal) (bit : ToldBit r) where
+  abbrev told : ℕ
+  told = refusalNumber r
 
-  pub refusal-reason : reasonBy (kindIn (refusalNumber r)) ≡ r .reason
-  refusal-reason =
+  halved : told / 2 ≡ 1024 * (r .position) + faultOf (r .reason) (r .detail)
+  halved = omega arith
+
+  pub refusal-position : positionIn told ≡ r .position
+  refusal-position = omega (arith, number-few (r .reason), bit)
+
+  pub refusal-bit : bitIn told ≡ r .detail
+  refusal-bit =
       let few = number-few (r .reason) in
-      let halved : (32 * (r .position) + (2 * numberOf (r .reason) + 1)) / 2 ≡ 16 * (r .position) + numberOf (r .reason) = omega arith in
-      let kind : kindIn (refusalNumber r) ≡ numberOf (r .reason) = rw halved (omega arith) in
-      rw kind (reason-back (r .reason))
+      let above : told / 64 ≡ 32 * (r .position) + r .detail = omega (arith, few, bit) in
+      rw above (omega (arith, bit))
 
-pub judged-back : (j : Judged) → judgedFrom (judgedNumber j) ≡ j
+  pub refusal-reason : reasonBy (numberIn told) ≡ r .reason
+  refusal-reason =
+      let number : numberIn told ≡ numberOf (r .reason) = rw halved (omega (arith, number-few (r .reason))) in
+      rw number (reason-back (r .reason))
+
+pub good-back : (size : ℕ) (class : Class) → judgedFrom (judgedNumber (Good size class)) ≡ Good size class
 unfolding judgedFrom
-judged-back (Good size class) = rw (yes-even size class, yes-size size class, yes-class size class, class-back class)
-judged-back (Refused r) = rw (refusal-odd r, refusal-position r, refusal-reason r)
+good-back size class = rw (yes-even size class, yes-size size class, yes-class size class, class-back class)
+
+pub judged-back : (n : ℕ) (j : Judged) → Within ToldBit n j → judgedFrom (judgedNumber j) ≡ j
+unfolding judgedFrom
+judged-back n (Good size class) h = good-back size class
+judged-back n (Refused r) bit = rw (refusal-odd r, refusal-position r bit, refusal-bit r bit, refusal-reason r bit)
 
 -- a PHASE is seen from what is told of it
 class-phase : (c : Class) → eqb (2 * classNumber c) 26 ≡ classPhase c

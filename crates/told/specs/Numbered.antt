@@ -3,7 +3,7 @@ use Prim.Native.Nat.{ℕ, _+_, _*_, _/_, _%_}
 use mathlib.Core.Bool.{Bool}
 use lib.Dec.{eqb}
 use Rattle.paper.specs.Notation.{pick}
-use Rattle.paper.specs.Numbers.{numberOf, reasonBy, refusal}
+use Rattle.paper.specs.Numbers.{faultOf, reasonBy, refusalAtBit}
 use Rattle.shapes.specs.Classes.{classNumber}
 use Rattle.paper.specs.declared.Refusal.{Refusal}
 use Rattle.paper.specs.declared.Single.the-variants.{Comment, Plain, Break, Label, Return, Phase}
@@ -22,12 +22,12 @@ use Rattle.paper.specs.declared.Judged.the-variants.{Good, Refused}
 abbrev pub yesNumber : ℕ → ℕ → ℕ
 yesNumber size class = 32 * size + 2 * class
 
--- a refusal: the paper's number of its reason, and its position
+-- a refusal: what is told of its fault, which is the paper's number of its reason and above it the bit, and its position
 abbrev pub faultNumber : ℕ → ℕ → ℕ
-faultNumber number position = 32 * position + (2 * number + 1)
+faultNumber fault position = 2048 * position + (2 * fault + 1)
 
 abbrev pub refusalNumber : Refusal → ℕ
-refusalNumber r = faultNumber (numberOf (r .reason)) (r .position)
+refusalNumber r = faultNumber (faultOf (r .reason) (r .detail)) (r .position)
 
 abbrev pub judgedNumber : Judged → ℕ
 judgedNumber (Good size class) = yesNumber size (classNumber class)
@@ -45,8 +45,8 @@ abbrev pub operandsNumber : Operands → ℕ
 operandsNumber Fit = 0
 operandsNumber (unfit r) = refusalNumber r
 
--- back from the number: whether it is a refusal's; the tokens that an operand takes; the size, and a refusal's position; the number of the class, and a refusal's; whether it
--- is the yes of a plain instruction, which has class 1, and whether that of a PHASE, which has class 13
+-- back from the number: whether it is a refusal's; the tokens that an operand takes; of a yes the size and the number of the class, whether it
+-- is a plain instruction's, which has class 1, and whether a PHASE's, which has class 13
 abbrev pub isRefusal : ℕ → Bool
 isRefusal told = eqb (told % 2) 1
 
@@ -64,6 +64,16 @@ isPlain told = eqb (told % 32) 2
 
 abbrev pub tellsPhase : ℕ → Bool
 tellsPhase told = eqb (told % 32) 26
+
+-- of a refusal the number, the bit and the position
+abbrev pub numberIn : ℕ → ℕ
+numberIn told = told / 2 % 32
+
+abbrev pub bitIn : ℕ → ℕ
+bitIn told = told / 64 % 32
+
+abbrev pub positionIn : ℕ → ℕ
+positionIn told = told / 2048
 
 -- the class
 abbrev pub classBy : ℕ → Class
@@ -84,4 +94,4 @@ classBy n =
 
 unfoldable pub judgedFrom : ℕ → Judged
 judgedFrom n =
-    pick (isRefusal n) (Refused (refusal (reasonBy (kindIn n)) (sizeIn n))) (Good (sizeIn n) (classBy (kindIn n)))
+    pick (isRefusal n) (Refused (refusalAtBit (reasonBy (numberIn n)) (positionIn n) (bitIn n))) (Good (sizeIn n) (classBy (kindIn n)))

@@ -2,7 +2,7 @@
 ghost use mathlib.Core.Path.{_≡_};
 ghost use Prim.Native.Nat.{_%_, _^_};
 ghost use Rattle.paper.specs.Numbers.{numberOf, reasonBy, refusal, toldInstruction};
-ghost use Rattle.told.specs.Numbered.{yesNumber, faultNumber, refusalNumber, isRefusal, takenIn, sizeIn, kindIn, isPlain, tellsPhase, classBy, judgedFrom};
+ghost use Rattle.told.specs.Numbered.{yesNumber, faultNumber, refusalNumber, isRefusal, takenIn, sizeIn, kindIn, isPlain, tellsPhase, numberIn, bitIn, positionIn, classBy, judgedFrom};
 use paper::Class;
 use paper::Closer;
 use paper::Judged;
@@ -11,12 +11,21 @@ use paper::Reason;
 use paper::Refusal;
 use paper::Single;
 
-// Behind the lowest bit stands the class or the reason, and above it the size or the position.
+// Behind the lowest bit of a yes stands the class, and above it the size.
 const HALF: u64 = 2;
 
 const KINDS: u64 = 16;
 
 const WHOLE: u64 = HALF * KINDS;
+
+// Behind the lowest bit of a refusal stands the number of its reason, above it the detail, and above that the position.
+const NUMBERS: u64 = 32;
+
+const DETAILS: u64 = 32;
+
+const DETAILED: u64 = HALF * NUMBERS;
+
+const PLACED: u64 = DETAILED * DETAILS;
 
 // The class of a plain instruction and that of PHASE, as a yes of any size has them.
 const PLAIN: u64 = HALF;
@@ -43,11 +52,11 @@ pub fn yes(size: u32, class: u64) -> u64
     std::num::wrapping_add_u64(WHOLE * size as u64, doubled)
 }
 
-// A refusal: the number of its reason, and its position from the first token on.
-pub fn refused(number: u32, position: u32) -> u64
-    ensures { λ r. ⌜ r ≡ faultNumber number position ⌝ }
+// A refusal: what is told of its fault, the number of its reason and above it the detail, and its position from the first token on.
+pub fn refused(fault: u32, position: u32) -> u64
+    ensures { λ r. ⌜ r ≡ faultNumber fault position ⌝ }
 {
-    WHOLE * position as u64 + (HALF * number as u64 + 1)
+    PLACED * position as u64 + (HALF * fault as u64 + 1)
 }
 
 // A refusal of the whole instruction, which stands at its first token.
@@ -84,7 +93,7 @@ pub fn taken_of(told: u64) -> usize
     (told / HALF) as usize
 }
 
-// How many tokens a yes takes behind the first; of a refusal, its position.
+// How many tokens a yes takes behind the first.
 pub fn size_of(told: u64) -> usize
     ensures { λ r. ⌜ r ≡ sizeIn told ⌝ }
 {
@@ -129,22 +138,38 @@ fn reason_by(number: u64) -> Reason
         4 => Reason::Bits,
         5 => Reason::RunOut,
         6 => Reason::Size,
-        7 => Reason::Operand,
         8 => Reason::Register,
         9 => Reason::Block,
         10 => Reason::Depth,
         11 => Reason::Tail,
         12 => Reason::Place,
         13 => Reason::Room,
-        _ => Reason::Record,
+        14 => Reason::Record,
+        16 => Reason::Reserved,
+        17 => Reason::Modifier,
+        _ => Reason::Relative,
     }
 }
 
 // The reason of a refusal.
 pub fn reason_of(told: u64) -> Reason
-    ensures { λ r. ⌜ numberOf r ≡ numberOf (reasonBy (kindIn told)) ⌝ }
+    ensures { λ r. ⌜ numberOf r ≡ numberOf (reasonBy (numberIn told)) ⌝ }
 {
-    reason_by(told / HALF % KINDS)
+    reason_by(told / HALF % NUMBERS)
+}
+
+// The detail of a refusal.
+pub fn bit_of(told: u64) -> usize
+    ensures { λ r. ⌜ r ≡ bitIn told ⌝ }
+{
+    (told / DETAILED % DETAILS) as usize
+}
+
+// The position of a refusal.
+pub fn position_of(told: u64) -> usize
+    ensures { λ r. ⌜ r ≡ positionIn told ⌝ }
+{
+    (told / PLACED) as usize
 }
 
 // What such a number tells.
@@ -152,9 +177,14 @@ pub fn judged_of(told: u64) -> Judged
     ensures { λ r. ⌜ toldInstruction r ≡ toldInstruction (judgedFrom told) ⌝ }
 {
     if is_refused(told) {
-        let reason = reason_by(told / HALF % KINDS);
-        let position = size_of(told);
-        return Judged::Refused(Refusal { reason, position });
+        let reason = reason_by(told / HALF % NUMBERS);
+        let detail = bit_of(told);
+        let position = position_of(told);
+        return Judged::Refused(Refusal {
+            reason,
+            position,
+            detail,
+        });
     }
     let class = class_by(told / HALF % KINDS);
     let size = size_of(told);

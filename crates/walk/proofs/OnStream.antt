@@ -9,7 +9,7 @@ use lib.Dec.{ltb}
 use lib.ListN.{length, drop, length-drop}
 use borrow.Author.Tests.{ltb-true, ltb-false}
 use Rattle.paper.specs.Notation.{pick}
-use Rattle.paper.specs.Numbers.{refusal}
+use Rattle.paper.specs.Numbers.{refusal, movedBy}
 use Rattle.paper.specs.Instruction.{judged}
 use Rattle.paper.specs.Blocks.{Cut, wrong, then, classPhase}
 use Rattle.paper.specs.Walk.{WalkState, begin, marked, step, go, bad, finish, atEnd, counts}
@@ -168,7 +168,7 @@ module _ (v : Version) (s : List ℕ) (state : State) (h : Stands v s state) (lt
   comes-judged (unfit q) e =
       let near : q .position ≤ length (drop (state .at) s) - 1 = rw e at (judged-near v (drop (state .at) s)) in
       let at : wrapped (state .at + q .position) ≡ state .at + q .position = mod-eq-of-lt (omega (arith, near, length-drop (state .at) s)) in
-      let cut : cutFrom v s (state .at) ≡ wrong (state .at) (refusal (q .reason) (state .at + q .position)) = cut-at v s (state .at) lt ∙ rw e in
+      let cut : cutFrom v s (state .at) ≡ wrong (state .at) (movedBy (λ p. state .at + p) q) = cut-at v s (state .at) lt ∙ rw e in
       rw at (sym (stands-verdict v s state h ∙ rw cut))
 
   -- the walk stands further on, or the verdict of the stream is known

@@ -5,7 +5,7 @@ use mathlib.Core.List.{List}
 use lib.Dec.{eqb}
 use borrow.Author.Tests.{ne-eqb}
 use Rattle.paper.specs.Notation.{pick}
-use Rattle.paper.specs.Numbers.{numberOf, reasonBy, refusal}
+use Rattle.paper.specs.Numbers.{numberOf, reasonBy, refusalAtBit}
 use Rattle.paper.specs.declared.Version.{Version}
 use Rattle.paper.specs.declared.Reason.{Reason}
 use Rattle.paper.proofs.OneToOne.{reason-back, no-reason-zero}
@@ -21,7 +21,7 @@ use Rattle.walk.specs.Steps.{passed, stepOf, onJudged, ToldStep, toldMov
 stepFrom : ToldStep → Step
 stepFrom t =
     stepOf
-    (pick (eqb (t .number) 0) (pick (eqb (t .finished) 0) On Done) (Refused (refusal (reasonBy (t .number)) (t .position))))
+    (pick (eqb (t .number) 0) (pick (eqb (t .finished) 0) On Done) (Refused (refusalAtBit (reasonBy (t .number)) (t .position) (t .detail))))
     (t .state)
 
 step-back : (answer : Move) (state : State) → stepFrom (toldMove answer state) ≡ stepOf answer state
@@ -30,7 +30,7 @@ step-back On state = refl
 step-back Done state = refl
 step-back (Refused r) state =
     rw (ne-eqb (numberOf (r .reason)) 0 (λ e. no-reason-zero (r .reason) (sym e)))
-    (ap (λ (x : Reason). stepOf (Refused (refusal x (r .position))) state) (reason-back (r .reason)))
+    (ap (λ (x : Reason). stepOf (Refused (refusalAtBit x (r .position) (r .detail))) state) (reason-back (r .reason)))
 
 pub same-step : (a b : Step) → toldStep a ≡ toldStep b → a ≡ b
 unfolding toldStep

@@ -122,7 +122,7 @@ module _ (v : Version) (s : List ℕ) (fits : length s < 2 ^ 64) where
                 sym
                 (same-step x (onJudged (judgedFrom (r .told)) (passed state at r)) (p .steps)
                 ∙ ap (onJudged (judgedFrom (r .told))) is
-                ∙ told-moves last (r .told) (judged v (drop (state .at + l .0) s)) tells);
+                ∙ told-moves v last (r .told) (drop (state .at + l .0) s) tells);
           }
 
       -- it comes to where the walk then stands, or the verdict of the stream is known

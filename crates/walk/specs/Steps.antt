@@ -6,7 +6,7 @@ use mathlib.Core.Bool.{Bool, true, false, _&&_, _||_}
 use mathlib.Core.List.{List}
 use lib.Dec.{ltb}
 use Rattle.paper.specs.Notation.{pick}
-use Rattle.paper.specs.Numbers.{numberOf, refusal}
+use Rattle.paper.specs.Numbers.{numberOf, refusal, movedBy}
 use Rattle.paper.specs.Blocks.{classPhase}
 use Rattle.paper.specs.Walk.{counts}
 use Rattle.paper.specs.declared.Version.{Version}
@@ -66,19 +66,21 @@ onNextBy Finish state size class = stepOf Done (behindOf state size class (state
 
 abbrev pub onJudged : Judged → State → Step
 onJudged (Good size class) state = onNextBy (nextBy (state .kinds) (state .phased) class) state size class
-onJudged (unfit r) state = stepOf (Refused (refusal (r .reason) (wrapped (state .at + r .position)))) state
+onJudged (unfit r) state = stepOf (Refused (movedBy (λ p. wrapped (state .at + p)) r)) state
 
--- what is told of a step: the number of a refusal, or 0, and its position; 1 where an END finishes the stream; the state
+-- what is told of a step: the number of a refusal, or 0, its position and its detail; 1 where an END finishes the stream; the state
 pub record ToldStep : Type 0 where
   pub number : ℕ
   pub position : ℕ
+  pub detail : ℕ
   pub finished : ℕ
   pub state : State
 
 abbrev pub toldMove : Move → State → ToldStep
-toldMove On state = record { number = 0; position = 0; finished = 0; state = state }
-toldMove Done state = record { number = 0; position = 0; finished = 1; state = state }
-toldMove (Refused r) state = record { number = numberOf (r .reason); position = r .position; finished = 0; state = state }
+toldMove On state = record { number = 0; position = 0; detail = 0; finished = 0; state = state }
+toldMove Done state = record { number = 0; position = 0; detail = 0; finished = 1; state = state }
+toldMove (Refused r) state =
+    record { number = numberOf (r .reason); position = r .position; detail = r .detail; finished = 0; state = state }
 
 unfoldable pub toldStep : Step → ToldStep
 toldStep step = toldMove (step .answer) (step .state)

@@ -1,6 +1,6 @@
 // The walk of a stream, a stretch of plain instructions and one more at a time: document 01, "The numbers given back" and "Blocks".
 ghost use mathlib.Core.Path.{_≡_};
-ghost use Rattle.paper.specs.Numbers.{refusal, told};
+ghost use Rattle.paper.specs.Numbers.{refusal, refusalAtBit, told};
 ghost use Rattle.paper.specs.Blocks.{isPhase, classPhase};
 ghost use Rattle.paper.specs.Walk.{counts};
 ghost use Rattle.told.specs.Numbered.{judgedFrom};
@@ -184,11 +184,15 @@ pub fn start() -> State
     }
 }
 
-fn refused(reason: Reason, position: usize, state: State) -> Step
-    ensures { λ r. ⌜ r ≡ stepOf (Move.Refused (refusal reason position)) state ⌝ }
+fn refused(reason: Reason, position: usize, detail: usize, state: State) -> Step
+    ensures { λ r. ⌜ r ≡ stepOf (Move.Refused (refusalAtBit reason position detail)) state ⌝ }
 {
     Step {
-        answer: Move::Refused(Refusal { reason, position }),
+        answer: Move::Refused(Refusal {
+            reason,
+            position,
+            detail,
+        }),
         state,
     }
 }
@@ -239,7 +243,7 @@ fn nested(state: State, size: usize, class: Class) -> Step
                 state: behind,
             }
         }
-        Next::Bad(reason) => refused(reason, state.at, state),
+        Next::Bad(reason) => refused(reason, state.at, 0, state),
         Next::Finish => {
             let behind = behind_of(state, size, class, state.kinds);
             Step {
@@ -262,6 +266,7 @@ fn moved(state: State, told: u64) -> Step
             refused(
                 reason,
                 std::num::wrapping_add_usize(state.at, refusal.position),
+                refusal.detail,
                 state,
             )
         }
@@ -305,7 +310,11 @@ pub fn goes_on(step: Step, until: usize) -> bool
 fn refuse(reason: Reason, position: usize) -> Verdict
     ensures { λ r. ⌜ r ≡ Verdict.Refused (refusal reason position) ⌝ }
 {
-    Verdict::Refused(Refusal { reason, position })
+    Verdict::Refused(Refusal {
+        reason,
+        position,
+        detail: 0,
+    })
 }
 
 // Behind the END that finishes a stream of so many tokens.

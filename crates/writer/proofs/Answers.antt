@@ -9,7 +9,6 @@ use borrow.Author.Tests.{eqb-true, eq-eqb, ne-eqb}
 use Rattle.paper.proofs.Bools.{apart}
 use Rattle.paper.specs.Notation.{pick}
 use Rattle.paper.specs.Versions.{versionToken, versions, namedAmong, named}
-use Rattle.paper.specs.Numbers.{refusal}
 use Rattle.paper.specs.InstructionToken.{commentOpcode}
 use Rattle.paper.specs.declared.Version.{Version}
 use Rattle.paper.specs.declared.Named.the-variants.{Known}
@@ -35,13 +34,13 @@ version-named token v e = named-among versions token v e
 
 module _ (v : Version) (r : Record) (body buffer : List ℕ) (at : ℕ) where
   pub refused-record : writable v r (length body) ≡ false →
-      (writingIn v r body buffer at ≡ Refused (refusal RECORD 0)) × (contentIn v r body buffer at ≡ buffer)
+      (writingIn v r body buffer at ≡ Refused RECORD) × (contentIn v r body buffer at ≡ buffer)
   unfolding writingIn contentIn
   refused-record w = (rw w, rw w)
 
   module _ (w : writable v r (length body) ≡ true) where
     pub refused-room : leb (at + length (tokensOf v r body)) (length buffer) ≡ false →
-        (writingIn v r body buffer at ≡ Refused (refusal ROOM 0)) × (contentIn v r body buffer at ≡ buffer)
+        (writingIn v r body buffer at ≡ Refused ROOM) × (contentIn v r body buffer at ≡ buffer)
     unfolding writingIn contentIn
     refused-room f = (rw (w, f), rw (w, f))
 

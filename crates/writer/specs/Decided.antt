@@ -7,7 +7,6 @@ use lib.Dec.{eqb, leb}
 use lib.ListN.{length, take}
 use Rattle.paper.specs.Notation.{pick}
 use Rattle.paper.specs.Versions.{versionToken, named}
-use Rattle.paper.specs.Numbers.{refusal}
 use Rattle.paper.specs.InstructionToken.{commentOpcode}
 use Rattle.paper.specs.Stream.{mostTokens}
 use Rattle.paper.specs.declared.Version.{Version}
@@ -60,15 +59,15 @@ pub record Encodes (v : Version) (r : Record) (n count : ℕ) (tokens : List ℕ
 -- the answer: a place past the buffer's end leaves no room either
 abbrev pub room : List ℕ → List ℕ → ℕ → Written
 room tokens buffer at =
-    pick (leb (at + length tokens) (length buffer)) (Wrote (at + length tokens)) (Refused (refusal ROOM 0))
+    pick (leb (at + length tokens) (length buffer)) (Wrote (at + length tokens)) (Refused ROOM)
 
 unfoldable pub writingIn : Version → Record → List ℕ → List ℕ → ℕ → Written
 writingIn v r body buffer at =
-    pick (writable v r (length body)) (room (tokensOf v r body) buffer at) (Refused (refusal RECORD 0))
+    pick (writable v r (length body)) (room (tokensOf v r body) buffer at) (Refused RECORD)
 
 abbrev pub writingOn : Named → Record → List ℕ → List ℕ → ℕ → Written
 writingOn (Known v) r body buffer at = writingIn v r body buffer at
-writingOn Unknown r body buffer at = Refused (refusal VERSION 0)
+writingOn Unknown r body buffer at = Refused VERSION
 
 unfoldable pub writing : ℕ → Record → List ℕ → List ℕ → ℕ → Written
 writing version r body buffer at = writingOn (named version) r body buffer at

@@ -8,7 +8,7 @@ use lib.Dec.{eqb}
 use lib.ListN.{length}
 use Rattle.paper.specs.Notation.{pick}
 use Rattle.paper.specs.Versions.{versionToken, named}
-use Rattle.paper.specs.Numbers.{numberOf, refusal}
+use Rattle.paper.specs.Numbers.{numberOf}
 use Rattle.paper.specs.InstructionToken.{commentOpcode}
 use Rattle.paper.specs.declared.Version.{Version}
 use Rattle.paper.specs.declared.Named.the-variants.{Known, Unknown}
@@ -43,18 +43,18 @@ pub record ToldWriting : Type 0 where
   pub position : ℕ
   pub next : ℕ
 
--- a yes has number 0 and position 0, a refusal has next place 0
+-- a yes has number 0, a refusal next place 0, and both position 0
 abbrev pub toldWriting : Written → ToldWriting
 toldWriting (Wrote next) = record { number = 0; position = 0; next = next }
-toldWriting (Refused r) = record { number = numberOf (r .reason); position = r .position; next = 0 }
+toldWriting (Refused reason) = record { number = numberOf reason; position = 0; next = 0 }
 
 -- what the writer tells of a version token, a record, a body, a buffer and a place, and what the buffer holds then: VERSION, RECORD and ROOM,
 -- each only where the ones before it are not given, leave it as it was; a yes changes "only the named tokens"
 pub data Writes (version : ℕ) (r : Record) (body buffer : List ℕ) (at : ℕ) : ToldWriting → List ℕ → Type 0 where
-  unnamed : named version ≡ Unknown → Writes version r body buffer at (toldWriting (Refused (refusal VERSION 0))) buffer
+  unnamed : named version ≡ Unknown → Writes version r body buffer at (toldWriting (Refused VERSION)) buffer
   unwritable : {v : Version} → named version ≡ Known v → (Writable v r body → ⊥) →
-      Writes version r body buffer at (toldWriting (Refused (refusal RECORD 0))) buffer
+      Writes version r body buffer at (toldWriting (Refused RECORD)) buffer
   cramped : {v : Version} → named version ≡ Known v → Writable v r body → length buffer < at + length (tokensOf v r body) →
-      Writes version r body buffer at (toldWriting (Refused (refusal ROOM 0))) buffer
+      Writes version r body buffer at (toldWriting (Refused ROOM)) buffer
   written : {v : Version} → named version ≡ Known v → Writable v r body → at + length (tokensOf v r body) ≤ length buffer →
       Writes version r body buffer at (toldWriting (Wrote (at + length (tokensOf v r body)))) (pasted buffer at (tokensOf v r body))

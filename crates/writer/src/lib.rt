@@ -7,7 +7,6 @@ ghost use lib.ListN.{length, getD};
 ghost use lib.Seq.{sets};
 ghost use Rattle.paper.specs.Notation.{pick};
 ghost use Rattle.paper.specs.Versions.{versionToken};
-ghost use Rattle.paper.specs.Numbers.{refusal};
 ghost use Rattle.places.specs.Places.{placeBy, decoded};
 ghost use Rattle.records.specs.Record.{operandCount, predicateSlot, noOperand};
 ghost use Rattle.reader.specs.Reading.{reading};
@@ -19,7 +18,6 @@ ghost use Rattle.writer.specs.Writing.{toldWriting, Writes};
 ghost use Rattle.writer.specs.Decided.{yieldedComment, gives, Encodes, room, contentAfter, writingIn, contentIn};
 use paper::Named;
 use paper::Reason;
-use paper::Refusal;
 use paper::Version;
 use reader::Answer;
 use records::Operand;
@@ -37,7 +35,7 @@ const MARK: u32 = 0x1000_0000;
 // The next place, or why nothing was written.
 pub enum Written {
     Wrote(usize),
-    Refused(Refusal),
+    Refused(Reason),
 }
 
 fn same_operand(a: Operand, b: Operand) -> bool
@@ -313,22 +311,13 @@ fn fits(count: usize, at: usize, room: usize) -> bool
     count <= room - at
 }
 
-fn refused(reason: Reason) -> Written
-    ensures { λ r. ⌜ r ≡ Written.Refused (refusal reason 0) ⌝ }
-{
-    Written::Refused(Refusal {
-        reason,
-        position: 0,
-    })
-}
-
 // Tokens and those behind them, written into the part of the buffer that starts at a place, if they fit.
 fn place(tokens: &[u32], behind: &[u32], buffer: &mut [u32], at: usize) -> Written
     ensures { λ r. ⌜ (r ≡ room (now (tokens .entry) ++ now (behind .entry)) (now (buffer .entry)) at) × (now (buffer .exit) ≡ contentAfter r (now (tokens .entry) ++ now (behind .entry)) (now (buffer .entry)) at) ⌝ }
 {
     let count = tokens.len() + behind.len();
     if !fits(count, at, buffer.len()) {
-        return refused(Reason::Room);
+        return Written::Refused(Reason::Room);
     }
     put(&mut buffer[at..], tokens, behind);
     Written::Wrote(at + count)
@@ -348,7 +337,7 @@ fn write_known(
     let mut tokens = [0u32; MOST_ENCODED];
     let count = encode(&mut tokens, version, known, instruction, body.len());
     if count == 0 {
-        return refused(Reason::Record);
+        return Written::Refused(Reason::Record);
     }
     place(&tokens[..count], body, buffer, at)
 }
@@ -367,6 +356,6 @@ pub fn write(
     let named = versions::version_of(version);
     match named {
         Named::Known(known) => write_known(version, known, instruction, body, buffer, at),
-        Named::Unknown => refused(Reason::Version),
+        Named::Unknown => Written::Refused(Reason::Version),
     }
 }

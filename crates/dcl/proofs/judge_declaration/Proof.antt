@@ -10,7 +10,7 @@ returns c = c .refused .ensures ∙ ap operandsNumber (sym (no-destination _ _ (
 
 returns-2 : tie.Need-returns-2
 returns-2 c =
-    rw (c .conclude .ensures, c .before .usage-laid .ensures, c .before .before .declared-at .ensures)
+    rw (c .conclude .ensures, c .before .usage-at .ensures, c .before .before .declared-at .ensures)
     (sym (with-destination _ _ (c .before .before .before .before .before .if1 .left)))
 
 pub judge-declaration-spec : {M : Type 1} → statement M

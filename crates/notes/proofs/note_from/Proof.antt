@@ -4,9 +4,9 @@ use Prim.Native.Nat.{ℕ, _+_, _-_, _<_}
 use native.Mathlib.Omega.{arith}
 use lib.ListN.{length}
 use Rattle.paper.specs.Stream.{cutFrom}
-use Rattle.paper.specs.Numbers.{reasonBy, refusal}
+use Rattle.paper.specs.Numbers.{reasonBy, refusalAtBit}
 use Rattle.paper.proofs.OneToOne.{same-reason}
-use Rattle.told.specs.Numbered.{kindIn, sizeIn}
+use Rattle.told.specs.Numbered.{numberIn, bitIn, positionIn}
 use Rattle.notes.specs.declared.Noted.the-variants.{Refused}
 use Rattle.notes.specs.Noted.{notedIn, notedFrom}
 use Rattle.notes.proofs.Search.{Turned, search-none, search-refused, refused-inside, search-good, good-inside}
@@ -37,8 +37,8 @@ module _ (a : tie.After-is-refused Inv-loop μ-loop) where
   told = a .before .judge-at .result
 
   refuses : a .is-refused .result ≡ true →
-      (notedFrom (start .args .version) (start .args .tokens .now) (start .args .from) ≡ Refused (refusal (reasonBy (kindIn told)) (turn .loop .at + sizeIn told))) ×
-      (turn .loop .at + sizeIn told < length (start .args .tokens .now))
+      (notedFrom (start .args .version) (start .args .tokens .now) (start .args .from) ≡ Refused (refusalAtBit (reasonBy (numberIn told)) (turn .loop .at + positionIn told) (bitIn told))) ×
+      (turn .loop .at + positionIn told < length (start .args .tokens .now))
   refuses f =
       let g = start .args in
       let l = turn .loop in
@@ -60,25 +60,25 @@ module _ (a : tie.After-is-refused Inv-loop μ-loop) where
       }
 
 add-refused-at : tie.Need-add-refused-at Inv-loop μ-loop
-add-refused-at c = let r = refuses (c .before .before .before) (c .before .before .if1 .taken) in omega (arith, c .size-of .ensures, r .1)
+add-refused-at c = let r = refuses (c .before .before .before .before) (c .before .before .before .if1 .taken) in omega (arith, c .position-of .ensures, r .1)
 
 returns : tie.Need-returns Inv-loop μ-loop
 returns c =
-    let a = c .before .before .before .before in
-    let r = refuses a (c .before .before .before .if1 .taken) in
-    let reason = c .before .before .reason-of in
+    let a = c .before .before .before .before .before in
+    let r = refuses a (c .before .before .before .before .if1 .taken) in
+    let reason = c .before .before .before .reason-of in
     c .refused-at .ensures
-    ∙ rw (same-reason (reason .result) (reasonBy (kindIn (told a))) (reason .ensures), c .before .size-of .ensures) (sym (r .0))
+    ∙ rw (same-reason (reason .result) (reasonBy (numberIn (told a))) (reason .ensures), c .before .before .bit-of .ensures, c .before .position-of .ensures) (sym (r .0))
 
 add-next-2 : tie.Need-add-next-2 Inv-loop μ-loop
-add-next-2 c = let t = goes (c .before .before .before) (c .before .before .if1 .left) in omega (arith, c .size-of2 .ensures, t .inside)
+add-next-2 c = let t = goes (c .before .before .before) (c .before .before .if1 .left) in omega (arith, c .size-of .ensures, t .inside)
 
 returns-2 : tie.Need-returns-2 Inv-loop μ-loop
 returns-2 c =
     let t = goes (c .before .before .before .before .before .before .before .before) (c .before .before .before .before .before .before .before .if1 .left) in
     let second = c .before .before .before .before .token-or-zero .ensures in
     let notes = rw second at (c .before .before .before .notes-of .ensures) in
-    rw (notes, c .before .before .begin-of .ensures, c .before .before .before .before .before .size-of2 .ensures)
+    rw (notes, c .before .before .begin-of .ensures, c .before .before .before .before .before .size-of .ensures)
     (sym (t .is ∙ rw (← notes, ← (c .before .opcode-of .ensures), c .if2 .taken)))
 
 loop-less : tie.Need-loop-less Inv-loop μ-loop
@@ -86,7 +86,7 @@ loop-less c =
     let t = goes (c .before .before .before .before .before .before .before .before .before) (c .before .before .before .before .before .before .before .before .if1 .left) in
     omega (
       arith,
-      c .before .before .before .before .before .before .size-of2 .ensures,
+      c .before .before .before .before .before .before .size-of .ensures,
       t .inside,
       c .before .before .before .before .before .before .before .before .before .before .before .loop-test .taken,
     )
@@ -99,7 +99,7 @@ loop-again c =
     rw (
       c .behind-of .ensures,
       c .before .before .before .begin-of .ensures,
-      c .before .before .before .before .before .before .size-of2 .ensures,
+      c .before .before .before .before .before .before .size-of .ensures,
     )
     (t .is ∙ rw (← notes, ← (c .before .before .opcode-of .ensures), c .before .if2 .left))
 
@@ -117,6 +117,7 @@ note-from-spec =
     Inv-loop
     μ-loop
     loop-holds
+    (λ c κs. search needs)
     (λ c κs. search needs)
     (λ c κs. search needs)
     (λ c κs. search needs)

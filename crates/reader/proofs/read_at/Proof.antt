@@ -3,7 +3,7 @@ use mathlib.Core.Bool.{true, false}
 use native.Mathlib.Omega.{arith}
 use borrow.Author.Tests.{le-ltb}
 use Rattle.paper.specs.Numbers.{reasonBy}
-use Rattle.told.specs.Numbered.{kindIn}
+use Rattle.told.specs.Numbered.{numberIn}
 use Rattle.paper.proofs.OneToOne.{same-reason}
 use Rattle.reader.specs.Reading.{readingAt}
 use Rattle.reader.proofs.Steps.{Got, Unread, reads-good, reads-refused}
@@ -34,21 +34,22 @@ returns c = rw (le-ltb _ _ (c .before .if1 .taken)) (c .refused-at .ensures)
 
 returns-2 : tie.Need-returns-2
 returns-2 c =
-    let why : c .before .before .reason-of .result ≡ reasonBy (kindIn (c .before .before .before .before .before .judge-at .result)) = same-reason _ _ (c .before .before .reason-of .ensures) in
-    rw (refused (c .before .before .before .before) (c .before .before .before .if2 .taken) .reads, ← why, ← (c .before .size-of .ensures))
+    let a = c .before .before .before .before .before in
+    let why : c .before .before .before .reason-of .result ≡ reasonBy (numberIn (a .before .judge-at .result)) = same-reason _ _ (c .before .before .before .reason-of .ensures) in
+    rw (refused a (c .before .before .before .before .if2 .taken) .reads, ← why, ← (c .before .before .bit-of .ensures), ← (c .before .position-of .ensures))
     (c .refused-at2 .ensures)
 
 part-read-record-end : tie.Need-part-read-record-end
-part-read-record-end c = let inside = good (c .before .before .before .before) (c .before .before .before .if2 .left) .inside in omega (arith, c .before .size-of2 .ensures)
+part-read-record-end c = let inside = good (c .before .before .before .before) (c .before .before .before .if2 .left) .inside in omega (arith, c .before .size-of .ensures)
 
 read-record-requires : tie.Need-read-record-requires
 read-record-requires c κs =
-    rw (c .before .before .before .class-of .ensures, c .before .before .size-of2 .ensures)
+    rw (c .before .before .before .class-of .ensures, c .before .before .size-of .ensures)
     (good (c .before .before .before .before .before) (c .before .before .before .before .if2 .left) .readable)
 
 returns-3 : tie.Need-returns-3
 returns-3 c =
-    rw (c .read-record .ensures, c .before .before .before .before .class-of .ensures, c .before .before .before .size-of2 .ensures)
+    rw (c .read-record .ensures, c .before .before .before .before .class-of .ensures, c .before .before .before .size-of .ensures)
     (sym (good (c .before .before .before .before .before .before) (c .before .before .before .before .before .if2 .left) .reads))
 
 pub read-at-spec : {M : Type 1} → statement M
@@ -57,6 +58,7 @@ read-at-spec =
     (tie.spec
     (λ c κs. search needs)
     returns
+    (λ c κs. search needs)
     (λ c κs. search needs)
     (λ c κs. search needs)
     (λ c κs. search needs)

@@ -2,6 +2,7 @@ use mathlib.Core.Path.{sym, _∙_}
 use Rattle.paper.specs.OperandTokens.{tokenAt}
 use Rattle.paper.specs.Places.{free}
 use Rattle.tokens.proofs.TokenAt.{plain-destination-laid}
+use Rattle.places.proofs.Places.{free-destination-place}
 use Rattle.versions.proofs.Types.{destination-types}
 use borrow.Author.Needs.{needs}
 use Rattle.tokens.proofs.judge_destination.Statement.{statement}
@@ -17,7 +18,8 @@ returns-2 c = rw (c .told-by-type2 .ensures, c .before .free-destination-types2 
 
 returns-3 : tie.Need-returns-3
 unfolding tokenAt
-returns-3 c = rw (sym (c .before .free-destination-laid .ensures) ∙ c .if2 .left)
+returns-3 c =
+    rw (sym (c .before .before .free-destination-laid .ensures) ∙ c .before .if2 .left) (rw free-destination-place at (c .fault-at .ensures))
 
 pub judge-destination-spec : {M : Type 1} → statement M
 judge-destination-spec =
@@ -31,4 +33,5 @@ judge-destination-spec =
     (λ c κs. search needs)
     (λ c κs. search needs)
     returns-2
+    (λ c κs. search needs)
     returns-3)

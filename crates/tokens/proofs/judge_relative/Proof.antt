@@ -1,5 +1,6 @@
 use mathlib.Core.Path.{sym, _∙_}
 use Rattle.paper.specs.OperandTokens.{tokenAt}
+use Rattle.places.proofs.Places.{relative-place}
 use borrow.Author.Needs.{needs}
 use Rattle.tokens.proofs.judge_relative.Statement.{statement}
 use Rattle.tokens.proofs.judge_relative.Tie as tie
@@ -12,7 +13,7 @@ returns c =
 returns-2 : tie.Need-returns-2
 unfolding tokenAt
 returns-2 c =
-    rw (sym (c .before .relative-laid .ensures) ∙ c .if1 .left)
+    rw (sym (c .before .before .relative-laid .ensures) ∙ c .before .if1 .left) (rw relative-place at (c .fault-at .ensures))
 
 pub judge-relative-spec : {M : Type 1} → statement M
 judge-relative-spec =
@@ -22,4 +23,5 @@ judge-relative-spec =
     (λ c κs. search needs)
     (λ c κs. search needs)
     returns
+    (λ c κs. search needs)
     returns-2)

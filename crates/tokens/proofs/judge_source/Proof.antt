@@ -2,6 +2,7 @@ use mathlib.Core.Path.{sym, _∙_}
 use Rattle.paper.specs.OperandTokens.{tokenAt}
 use Rattle.paper.specs.Places.{free}
 use Rattle.tokens.proofs.TokenAt.{plain-source-laid}
+use Rattle.places.proofs.Places.{free-source-place}
 use Rattle.versions.proofs.Types.{source-types}
 use borrow.Author.Needs.{needs}
 use Rattle.tokens.proofs.judge_source.Statement.{statement}
@@ -17,7 +18,8 @@ returns-2 c = rw (c .told-by-type2 .ensures, c .before .free-source-types2 .ensu
 
 returns-3 : tie.Need-returns-3
 unfolding tokenAt
-returns-3 c = rw (sym (c .before .free-source-laid .ensures) ∙ c .if2 .left)
+returns-3 c =
+    rw (sym (c .before .before .free-source-laid .ensures) ∙ c .before .if2 .left) (rw free-source-place at (c .fault-at .ensures))
 
 pub judge-source-spec : {M : Type 1} → statement M
 judge-source-spec =
@@ -31,4 +33,5 @@ judge-source-spec =
     (λ c κs. search needs)
     (λ c κs. search needs)
     returns-2
+    (λ c κs. search needs)
     returns-3)

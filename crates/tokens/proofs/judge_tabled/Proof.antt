@@ -20,7 +20,7 @@ returns c =
 
 returns-2 : tie.Need-returns-2
 unfolding tokenAt
-returns-2 c = rw (sym (c .before .tabled-laid .ensures) ∙ c .if1 .left)
+returns-2 c = rw (sym (c .before .before .tabled-laid .ensures) ∙ c .before .if1 .left) (c .fault-at .ensures)
 
 pub judge-tabled-spec : {M : Type 1} → statement M
-judge-tabled-spec = tie.close (tie.spec (λ c κs. search needs) (λ c κs. search needs) returns returns-2)
+judge-tabled-spec = tie.close (tie.spec (λ c κs. search needs) (λ c κs. search needs) returns (λ c κs. search needs) returns-2)

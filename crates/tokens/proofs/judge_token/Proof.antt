@@ -45,7 +45,7 @@ returns-5 c = rw (c .told-typed .ensures, c .before .typed-at .ensures, sym (c .
 
 returns-6 : tie.Need-returns-6
 unfolding tokenAt
-returns-6 c = rw (sym (c .before .typed-laid .ensures) ∙ c .if5 .left)
+returns-6 c = rw (sym (c .before .before .typed-laid .ensures) ∙ c .before .if5 .left) (c .fault-at .ensures)
 
 pub judge-token-spec : {M : Type 1} → statement M
 judge-token-spec =
@@ -64,4 +64,5 @@ judge-token-spec =
     typed-at-requires
     (λ c κs. search needs)
     returns-5
+    (λ c κs. search needs)
     returns-6)

@@ -3,9 +3,11 @@ use Rattle.told.proofs.reason_by.Statement.{statement}
 use Rattle.told.proofs.reason_by.Tie as tie
 
 -- none of the numbers that have an arm
-other : tie.Need-returns-14
+other : tie.Need-returns-16
 other c =
     simp (
+      ne-eqb _ _ (c .match .rest .0 .0 .0 .0 .0 .0 .0 .0 .0 .0 .0 .0 .0 .0 .1),
+      ne-eqb _ _ (c .match .rest .0 .0 .0 .0 .0 .0 .0 .0 .0 .0 .0 .0 .0 .1),
       ne-eqb _ _ (c .match .rest .0 .0 .0 .0 .0 .0 .0 .0 .0 .0 .0 .0 .1),
       ne-eqb _ _ (c .match .rest .0 .0 .0 .0 .0 .0 .0 .0 .0 .0 .0 .1),
       ne-eqb _ _ (c .match .rest .0 .0 .0 .0 .0 .0 .0 .0 .0 .0 .1),
@@ -38,4 +40,6 @@ reason-by-spec =
     (λ c. rw (c .match .keys11))
     (λ c. rw (c .match .keys12))
     (λ c. rw (c .match .keys13))
+    (λ c. rw (c .match .keys14))
+    (λ c. rw (c .match .keys15))
     other)

@@ -1,6 +1,6 @@
 use Prim.Native.Nat.{_+_, _-_}
 use native.Mathlib.Omega.{arith}
-use mathlib.Core.Path.{_≡_, sym, _∙_}
+use mathlib.Core.Path.{_≡_, refl, sym, _∙_}
 use mathlib.Core.Bool.{true}
 use mathlib.Core.List.{_++_}
 use lib.Dec.{leb}
@@ -18,9 +18,9 @@ fit c = sym (c .before .fits2 .ensures) ∙ not-false (c .before .fits2 .result)
 
 returns : tie.Need-returns
 returns c =
-    let g = c .before .before .before .before .before .before .args in
-    let none = sym (c .before .before .fits2 .ensures) ∙ not-true (c .before .before .fits2 .result) (c .before .if1 .taken) in
-    (rw (length-append (g .tokens .now) (g .behind .now), none) (c .refused .ensures), rw (c .refused .ensures))
+    let g = c .before .before .before .before .before .args in
+    let none = sym (c .before .fits2 .ensures) ∙ not-true (c .before .fits2 .result) (c .if1 .taken) in
+    (rw (length-append (g .tokens .now) (g .behind .now), none), refl)
 
 put-requires : tie.Need-put-requires
 put-requires c κs =
@@ -42,7 +42,6 @@ place-spec =
     tie.close
     (tie.spec
     (λ c. search needs)
-    (λ c κs. search needs)
     (λ c κs. search needs)
     returns
     (λ c. omega (arith, fit c, leb-true))

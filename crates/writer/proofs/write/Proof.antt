@@ -21,8 +21,7 @@ returns c =
 
 returns-2 : tie.Need-returns-2
 returns-2 c =
-    let n = sym (same-named _ _ (c .before .before .before .version-of .ensures)) ∙ c .before .enum-told .given .1 in
-    rw (c .refused .ensures) (unnamed n)
+    unnamed (sym (same-named _ _ (c .before .before .version-of .ensures)) ∙ c .enum-told .given .1)
 
 pub write-spec : {M : Type 1} → statement M
 write-spec =
@@ -32,7 +31,6 @@ write-spec =
     (λ c. search needs)
     write-known-requires
     (λ c. search needs)
-    (λ c κs. search needs)
     (λ c. search needs)
     returns
     returns-2)

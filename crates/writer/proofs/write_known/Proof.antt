@@ -1,4 +1,4 @@
-use mathlib.Core.Path.{refl, sym, _∙_}
+use mathlib.Core.Path.{refl, sym}
 use lib.Seq.{length-take-le}
 use Rattle.writer.specs.Decided.{writingIn, contentIn}
 use Rattle.writer.proofs.Answers.{refused-record}
@@ -8,9 +8,9 @@ use Rattle.writer.proofs.write_known.Tie as tie
 
 returns : tie.Need-returns
 returns c =
-    let g = c .before .before .before .before .before .before .before .args in
-    let e = refused-record (g .known) (g .instruction) (g .body .now) (g .buffer .now) (g .at) (c .before .before .before .encode .ensures .fails (c .before .if1 .taken)) in
-    (c .refused .ensures ∙ sym (e .0), sym (e .1))
+    let g = c .before .before .before .before .before .before .args in
+    let e = refused-record (g .known) (g .instruction) (g .body .now) (g .buffer .now) (g .at) (c .before .before .encode .ensures .fails (c .if1 .taken)) in
+    (sym (e .0), sym (e .1))
 
 slice-aggregate-place : tie.Need-slice-aggregate-place
 slice-aggregate-place c =
@@ -30,7 +30,6 @@ write-known-spec =
     tie.close
     (tie.spec
     (λ c. search needs)
-    (λ c κs. search needs)
     (λ c κs. search needs)
     returns
     (λ c. search needs)
