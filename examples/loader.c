@@ -14,6 +14,14 @@ static uint8_t bytes[4 * SANTUBELI_MOST_TOKENS + 1];
 
 static uint32_t tokens[SANTUBELI_MOST_TOKENS];
 
+static void tell_refusal(const char *name, struct santubeli_verdict verdict)
+{
+    fprintf(stderr, "%s: refused, number %u at token %zu", name, (unsigned)verdict.number, verdict.position);
+    if (verdict.number >= SANTUBELI_RESERVED && verdict.number <= SANTUBELI_RELATIVE)
+        fprintf(stderr, ", bit %zu", verdict.detail);
+    fprintf(stderr, "\n");
+}
+
 /* The notes on an accepted shader. They are for the log: a yes stays a yes. */
 static void tell_notes(const char *name, size_t count)
 {
@@ -51,7 +59,7 @@ static int load(const char *name)
     }
     const struct santubeli_verdict verdict = santubeli_check(bytes, length);
     if (verdict.number != SANTUBELI_YES) {
-        fprintf(stderr, "%s: refused, number %u at token %zu\n", name, (unsigned)verdict.number, verdict.position);
+        tell_refusal(name, verdict);
         return 1;
     }
     tell_notes(name, verdict.tokens);
