@@ -26,6 +26,9 @@ static enum status check(FILE *file, const char *name)
     if (verdict.number == SECOND_YES)
         printf("accept tokens %" PRIu32 " instructions %" PRIu32 "\n",
                verdict.tokens, verdict.instructions);
+    else if (verdict.number >= SECOND_RESERVED && verdict.number <= SECOND_RELATIVE)
+        printf("refuse %" PRIu32 " at %" PRIu32 " bit %" PRIu32 "\n",
+               verdict.number, verdict.position, verdict.detail);
     else
         printf("refuse %" PRIu32 " at %" PRIu32 "\n", verdict.number, verdict.position);
     return verdict.number == SECOND_YES ? ALL_ACCEPTED : SOME_REFUSED;

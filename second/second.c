@@ -73,6 +73,10 @@ enum place {
 
 enum { TYPE_SAMPLER = 10, TYPE_MISC = 17, TYPE_PREDICATE = 19 };
 
+/* What a judge says of an operand token that breaks its layout. It is no number
+   of the papers: fault_at has that, and the bit. */
+enum { MISLAID = 0xFF };
+
 static const uint32_t BIT_31 = UINT32_C(1) << 31;
 static const uint32_t BIT_13 = UINT32_C(1) << 13;
 static const uint32_t COISSUE = UINT32_C(1) << 30;
@@ -185,9 +189,9 @@ static inline uint32_t judge_token(uint32_t token, const struct layout *layout)
     const uint32_t modifier = field(token, 24, 15);
 
     if ((token & layout->fixed) != BIT_31 || !(layout->modifiers >> modifier & 1))
-        return SECOND_OPERAND;
+        return MISLAID;
     if (modifier == 0xD && type != TYPE_PREDICATE)
-        return SECOND_OPERAND;
+        return MISLAID;
     if (!(layout->types >> type & 1))
         return SECOND_REGISTER;
     return SECOND_YES;
@@ -197,7 +201,7 @@ static inline uint32_t judge_token(uint32_t token, const struct layout *layout)
 static inline uint32_t judge_first_destination(uint32_t token, const struct layout *layout)
 {
     if ((token & layout->fixed) != BIT_31)
-        return SECOND_OPERAND;
+        return MISLAID;
     return layout->types >> type_of(token) & 1 ? SECOND_YES : SECOND_REGISTER;
 }
 
@@ -484,14 +488,14 @@ static uint32_t judge_dcl(enum version version, const uint32_t *tokens, size_t a
     const uint32_t destination = tokens[at + 2];
     number = judge_token(destination, &layouts[version][DECLARED_D]);
     if (number == SECOND_YES && !is_declarable(destination))
-        number = SECOND_OPERAND;
+        number = MISLAID;
     if (number != SECOND_YES) {
         *place = at + 2;
         return number;
     }
     if (!is_usage(version, type_of(destination), tokens[at + 1])) {
         *place = at + 1;
-        return SECOND_OPERAND;
+        return MISLAID;
     }
     return size == 2 ? SECOND_YES : SECOND_SIZE;
 }
@@ -614,7 +618,7 @@ static uint32_t judge_first_dcl(const uint32_t *tokens, size_t at, size_t *place
     }
     if (!is_usage_form(tokens[at + 1])) {
         *place = at + 1;
-        return SECOND_OPERAND;
+        return MISLAID;
     }
     *place = at + 3;
     return SECOND_YES;
@@ -670,6 +674,109 @@ typedef uint32_t judge(enum version version, const uint32_t *tokens, size_t coun
 static judge *judge_of(enum version version)
 {
     return is_first(version) ? judge_first : judge_later;
+}
+
+/* ---- What is wrong with a token: request Q-3 --------------------------- */
+
+struct fault {
+    uint32_t number, bit;
+};
+
+static bool is_set(uint32_t token, unsigned bit)
+{
+    return token >> bit & 1;
+}
+
+/*
+ * The place at which tokens[position] stands in the instruction at tokens[at];
+ * what stands between the two is lawful.
+ */
+static enum place place_of(enum version version, const uint32_t *tokens, size_t at, size_t position)
+{
+    const struct rule *const rule = rule_of(version, tokens[at] & 0xFFFF);
+    size_t next = at + 1;
+
+    for (unsigned k = 0; k < rule->places; k++) {
+        const bool relative = rule->place[k] < RAW && tokens[next] & BIT_13 && !is_first(version);
+        if (next++ == position)
+            return rule->place[k];
+        if (relative && next++ == position)
+            return RELATIVE;
+        if (k == 0 && field(tokens[at], 28, 1) && next++ == position)
+            return PREDICATE;
+    }
+    return RAW;
+}
+
+/* Whether a destination breaks DCL's rules for type 17 at a bit, which is the
+   lowest where it is a field's. */
+static bool is_misdeclared(uint32_t token, unsigned bit)
+{
+    const uint32_t number = field(token, 0, 0x7FF);
+
+    if (type_of(token) != TYPE_MISC)
+        return false;
+    if (bit == 0)
+        return number > 1;
+    if (number != 1)
+        return false;
+    if (bit == 16)
+        return field(token, 16, 0xF) != 0xF;
+    return bit >= 20 && bit <= 23 && is_set(token, bit);
+}
+
+/* The same of U, which stands before a destination of this type. */
+static bool is_misused(enum version version, uint32_t type, uint32_t token, unsigned bit)
+{
+    const uint32_t texture = field(token, 27, 0xF);
+
+    if (type == TYPE_SAMPLER)
+        return bit == 27 ? texture < 2 || texture > 4 : bit < 27 && is_set(token, bit);
+    if (version == P2 || type == TYPE_MISC)
+        return is_set(token, bit);
+    if (bit == 0)
+        return field(token, 0, 0x1F) > 13;
+    return ((bit >= 5 && bit <= 15) || bit >= 20) && is_set(token, bit);
+}
+
+static struct fault fault_of_usage(enum version version, uint32_t type, uint32_t token)
+{
+    for (unsigned bit = 0; bit < 31 && is_set(token, 31); bit++)
+        if (is_misused(version, type, token, bit))
+            return (struct fault){SECOND_RESERVED, bit};
+    return (struct fault){SECOND_RESERVED, 31};
+}
+
+static struct fault fault_of_operand(enum version version, enum place place, uint32_t token)
+{
+    const uint32_t fixed = layouts[version][place].fixed;
+
+    if (!is_set(token, 31))
+        return (struct fault){SECOND_RESERVED, 31};
+    for (unsigned bit = 0; bit < 31; bit++) {
+        if (bit != 13 && is_set(fixed, bit) && is_set(token, bit))
+            return (struct fault){SECOND_RESERVED, bit};
+        if (version == P3 && place == DECLARED_D && is_misdeclared(token, bit))
+            return (struct fault){SECOND_RESERVED, bit};
+    }
+    if (is_set(fixed, 13) && is_set(token, 13))
+        return (struct fault){SECOND_RELATIVE, 13};
+    return (struct fault){SECOND_MODIFIER, 24};
+}
+
+/* What to tell of a refusal at tokens[position], in the instruction at tokens[at].
+   Cold, so that what is lawful is judged by the same code as without it. */
+__attribute__((cold))
+static struct fault fault_at(enum version version, const uint32_t *tokens, size_t at,
+                             uint32_t number, size_t position)
+{
+    if (number != MISLAID)
+        return (struct fault){number, 0};
+
+    const enum place place = place_of(version, tokens, at, position);
+    if (place == USAGE)
+        return fault_of_usage(version, type_of(tokens[position + 1]), tokens[position]);
+    return fault_of_operand(version, place, tokens[position]);
 }
 
 /* ---- Blocks ----------------------------------------------------------- */
@@ -761,7 +868,7 @@ struct walk {
     struct blocks blocks;  /* open at that place */
     uint32_t instructions; /* before that place */
     bool over;             /* judged to its end or refused */
-    uint32_t number;       /* the refusal when over, 0 for a yes */
+    uint32_t number;       /* the judge's when over, 0 for a yes */
     size_t position;
 };
 
@@ -817,30 +924,38 @@ static inline void walk_on(struct walk *walk)
     }
 }
 
+/* What a walk tells that was refused, at walk->at. */
+static struct fault walk_fault(const struct walk *walk)
+{
+    return fault_at(walk->version, walk->tokens, walk->at, walk->number, walk->position);
+}
+
 /* ---- Check ------------------------------------------------------------ */
 
-static struct second_verdict refused(uint32_t number, size_t position)
+static struct second_verdict refused(uint32_t number, size_t position, uint32_t detail)
 {
-    const struct second_verdict verdict = {number, (uint32_t)position, 0, 0};
+    const struct second_verdict verdict = {number, (uint32_t)position, detail, 0, 0};
     return verdict;
 }
 
 struct second_verdict second_check(const uint32_t *tokens, size_t count)
 {
     if (count < 2 || count > SECOND_MAX_TOKENS)
-        return refused(SECOND_LENGTH, 0);
+        return refused(SECOND_LENGTH, 0, 0);
 
     const enum version version = version_of(tokens[0]);
     if (version == NO_VERSION)
-        return refused(SECOND_VERSION, 0);
+        return refused(SECOND_VERSION, 0, 0);
 
     struct walk walk = walk_from(version, tokens, count);
     while (!walk.over)
         walk_on(&walk);
-    if (walk.number != SECOND_YES)
-        return refused(walk.number, walk.position);
+    if (walk.number != SECOND_YES) {
+        const struct fault fault = walk_fault(&walk);
+        return refused(fault.number, walk.position, fault.bit);
+    }
 
-    const struct second_verdict yes = {SECOND_YES, 0, (uint32_t)count, walk.instructions};
+    const struct second_verdict yes = {SECOND_YES, 0, 0, (uint32_t)count, walk.instructions};
     return yes;
 }
 
@@ -850,7 +965,7 @@ struct second_verdict second_check_bytes(const uint8_t *bytes, size_t length)
     const size_t count = length / 4;
 
     if (length % 4 != 0 || count > SECOND_MAX_TOKENS)
-        return refused(SECOND_LENGTH, 0);
+        return refused(SECOND_LENGTH, 0, 0);
     for (size_t k = 0; k < count; k++) {
         const uint8_t *const b = bytes + 4 * k;
         tokens[k] = (uint32_t)b[0] | (uint32_t)b[1] << 8 | (uint32_t)b[2] << 16 | (uint32_t)b[3] << 24;
@@ -938,12 +1053,15 @@ struct second_read second_read(uint32_t version, const uint32_t *tokens, size_t 
         result.number = SECOND_RUN_OUT;
         place = count;
     } else {
-        result.number = judge_of(known)(known, tokens, count, at, &place);
-        if (result.number == SECOND_YES) {
+        const uint32_t number = judge_of(known)(known, tokens, count, at, &place);
+        if (number == SECOND_YES) {
             result.next = place;
             unpack(known, tokens, at, &result.record);
             return result;
         }
+        const struct fault fault = fault_at(known, tokens, at, number, place);
+        result.number = fault.number;
+        result.detail = fault.bit;
     }
     result.position = (uint32_t)place;
     return result;
@@ -1005,6 +1123,7 @@ struct second_noted second_note(uint32_t version, const uint32_t *tokens, size_t
         if (read.number != SECOND_YES) {
             result.number = read.number;
             result.position = read.position;
+            result.detail = read.detail;
             return result;
         }
         if (before.count == 0)
@@ -1144,9 +1263,9 @@ struct second_written second_write(uint32_t version, const struct second_record 
 
 /* ---- Edit ------------------------------------------------------------- */
 
-static struct second_edited not_edited(uint32_t number, size_t position)
+static struct second_edited not_edited(uint32_t number, size_t position, uint32_t detail)
 {
-    const struct second_edited edited = {number, (uint32_t)position, 0, 0};
+    const struct second_edited edited = {number, (uint32_t)position, detail, 0, 0};
     return edited;
 }
 
@@ -1167,10 +1286,10 @@ struct second_edited second_edit(uint32_t *buffer, size_t buffer_length, size_t 
     uint32_t splice[SECOND_MAX_TOKENS];
 
     if (n < 2 || n > SECOND_MAX_TOKENS || n > buffer_length)
-        return not_edited(SECOND_LENGTH, 0);
+        return not_edited(SECOND_LENGTH, 0, 0);
     const enum version version = version_of(buffer[0]);
     if (version == NO_VERSION)
-        return not_edited(SECOND_VERSION, 0);
+        return not_edited(SECOND_VERSION, 0, 0);
 
     /* The old stream: are i and j boundaries, and what is open at j. */
     bool found_i = false, found_j = false;
@@ -1186,11 +1305,11 @@ struct second_edited second_edit(uint32_t *buffer, size_t buffer_length, size_t 
         }
     }
     if (!found_i || !found_j || i > j)
-        return not_edited(SECOND_PLACE, 0);
+        return not_edited(SECOND_PLACE, 0, 0);
 
     const size_t kept = n - (j - i);
     if (m > SECOND_MAX_TOKENS - kept || m > buffer_length - kept)
-        return not_edited(SECOND_ROOM, 0);
+        return not_edited(SECOND_ROOM, 0, 0);
     const size_t length = kept + m;
 
     copy_tokens(splice, buffer, i);
@@ -1206,10 +1325,12 @@ struct second_edited second_edit(uint32_t *buffer, size_t buffer_length, size_t 
         else
             walk_on(&new);
     }
-    if (!joined && new.number != SECOND_YES)
-        return not_edited(new.number, new.position);
+    if (!joined && new.number != SECOND_YES) {
+        const struct fault fault = walk_fault(&new);
+        return not_edited(fault.number, new.position, fault.bit);
+    }
 
     copy_tokens(buffer, splice, length);
-    const struct second_edited edited = {SECOND_YES, 0, joined, length};
+    const struct second_edited edited = {SECOND_YES, 0, 0, joined, length};
     return edited;
 }

@@ -20,14 +20,17 @@ enum second_number {
     SECOND_BITS = 4,
     SECOND_RUN_OUT = 5,
     SECOND_SIZE = 6,
-    SECOND_OPERAND = 7,
+    /* 7 is out of use: request Q-3 */
     SECOND_REGISTER = 8,
     SECOND_BLOCK = 9,
     SECOND_DEPTH = 10,
     SECOND_TAIL = 11,
     SECOND_PLACE = 12,
     SECOND_ROOM = 13,
-    SECOND_RECORD = 14
+    SECOND_RECORD = 14,
+    SECOND_RESERVED = 16,
+    SECOND_MODIFIER = 17,
+    SECOND_RELATIVE = 18
 };
 
 enum {
@@ -39,10 +42,11 @@ enum {
     SECOND_END = 0xFFFF        /* opcode of END's record */
 };
 
-/* Yes: number 0, position 0, the token count and the instruction count.
-   Refusal: number and position, the counts 0. */
+/* Yes: number 0, position 0, detail 0, the token count and the instruction count.
+   Refusal: number, position and detail, the counts 0. detail is the bit that
+   numbers 16 to 18 tell, and 0 of any other number. */
 struct second_verdict {
-    uint32_t number, position, tokens, instructions;
+    uint32_t number, position, detail, tokens, instructions;
 };
 
 /* Judges a stream given as tokens. */
@@ -80,7 +84,7 @@ struct second_record {
 
 /* Refusal: next 0, record all zero. */
 struct second_read {
-    uint32_t number, position;
+    uint32_t number, position, detail;
     uint64_t next;
     struct second_record record;
 };
@@ -89,9 +93,9 @@ struct second_read {
 struct second_read second_read(uint32_t version, const uint32_t *tokens, size_t count, size_t at);
 
 /*
- * Shapes that a driver reads otherwise, by docs/DRIVERS.md. Yes: number 0,
- * position 0; the sum of the shapes at `at` (0 at an END without one), where the
- * comments right before it begin, and the place behind it. Refusal: all else 0.
+ * Shapes that a driver reads otherwise, by docs/DRIVERS.md. Yes: number, position
+ * and detail 0; the sum of the shapes at `at` (0 at an END without one), where
+ * the comments right before it begin, and the place behind it. Refusal: all else 0.
  */
 enum second_shape {
     SECOND_WINED3D_COMMENTS = 1,
@@ -103,7 +107,7 @@ enum second_shape {
 };
 
 struct second_noted {
-    uint32_t number, position, notes;
+    uint32_t number, position, detail, notes;
     uint64_t at, comments, next;
 };
 
@@ -121,10 +125,10 @@ struct second_written second_write(uint32_t version, const struct second_record 
                                    const uint32_t *body, size_t body_length,
                                    uint32_t *buffer, size_t buffer_length, size_t at);
 
-/* Yes: number 0, joined 1 for JOINED and 0 for ACCEPTED, the new length.
+/* Yes: number 0, detail 0, joined 1 for JOINED and 0 for ACCEPTED, the new length.
    Refusal: joined 0, length 0, and the buffer is as it was. */
 struct second_edited {
-    uint32_t number, position;
+    uint32_t number, position, detail;
     uint32_t joined;
     uint64_t length;
 };

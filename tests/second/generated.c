@@ -63,8 +63,8 @@ static void accept(struct generate_source *source, unsigned version, size_t maxi
     const uint32_t instructions = generate_valid(source, version, tokens, length);
     const struct second_verdict verdict = second_check(tokens, length);
 
-    say(verdict.number == 0 && verdict.tokens == length && verdict.instructions == instructions, version,
-        "not accepted at", verdict.position);
+    say(verdict.number == 0 && verdict.detail == 0 && verdict.tokens == length && verdict.instructions == instructions,
+        version, "not accepted at", verdict.position);
     read_and_write(version, tokens, length);
 }
 
@@ -88,7 +88,7 @@ static void edit(struct generate_source *source, unsigned version)
     if (edited.number == SECOND_PLACE || edited.number == SECOND_ROOM)
         return;
     const struct second_verdict fresh = second_check(splice, length);
-    say(edited.number == fresh.number && edited.position == fresh.position
+    say(edited.number == fresh.number && edited.position == fresh.position && edited.detail == fresh.detail
             && (edited.number != 0 || (edited.length == length && memcmp(edit.buffer, splice, length * sizeof *splice) == 0)),
         version, "an edit is no check at", edit.i);
 }

@@ -8,7 +8,8 @@
 
 static struct second_verdict as_verdict(struct santubeli_verdict v)
 {
-    return (struct second_verdict){v.number, (uint32_t)v.position, (uint32_t)v.tokens, (uint32_t)v.instructions};
+    return (struct second_verdict){v.number, (uint32_t)v.position, (uint32_t)v.detail, (uint32_t)v.tokens,
+                                   (uint32_t)v.instructions};
 }
 
 struct second_verdict second_check(const uint32_t *tokens, size_t count)
@@ -24,7 +25,7 @@ struct second_verdict second_check_bytes(const uint8_t *bytes, size_t length)
 struct second_read second_read(uint32_t version, const uint32_t *tokens, size_t count, size_t at)
 {
     const struct santubeli_reading given = santubeli_read(version, tokens, count, at);
-    struct second_read read = {given.number, (uint32_t)given.position, given.next, {0}};
+    struct second_read read = {given.number, (uint32_t)given.position, (uint32_t)given.detail, given.next, {0}};
     memcpy(&read.record, &given.record, sizeof read.record);
     return read;
 }
@@ -42,5 +43,5 @@ struct second_edited second_edit(uint32_t *buffer, size_t buffer_length, size_t 
                                  size_t m)
 {
     const struct santubeli_edited given = santubeli_edit(buffer, buffer_length, n, i, j, run, m);
-    return (struct second_edited){given.number, (uint32_t)given.position, given.joined, given.length};
+    return (struct second_edited){given.number, (uint32_t)given.position, (uint32_t)given.detail, given.joined, given.length};
 }

@@ -142,9 +142,9 @@ static struct instruction make(uint32_t version, uint32_t opcode, const struct c
     return made;
 }
 
-static bool refused(struct second_read read, uint32_t number, size_t position)
+static bool refused(struct second_read read, uint32_t number, size_t position, uint32_t detail)
 {
-    return read.number == number && read.position == position;
+    return read.number == number && read.position == position && read.detail == detail;
 }
 
 /* ---- Questions -------------------------------------------------------- */
@@ -161,14 +161,14 @@ static void ask_count(uint32_t opcode, const struct cell *cell, const struct ins
             other.token[0] = with_size(made, count - 1);
         else
             other.count--;
-        say(refused(asked(&other), has_sizes(made->version) ? SECOND_SIZE : SECOND_RUN_OUT, 0), made->version, opcode,
+        say(refused(asked(&other), has_sizes(made->version) ? SECOND_SIZE : SECOND_RUN_OUT, 0, 0), made->version, opcode,
             "takes fewer operands than", count);
     }
     other = *made;
     other.count++;
     other.token[0] = with_size(made, count + 1);
     read = asked(&other);
-    say(has_sizes(made->version) ? refused(read, SECOND_SIZE, 0) : read.number == 0 && read.next == 1 + count, made->version,
+    say(has_sizes(made->version) ? refused(read, SECOND_SIZE, 0, 0) : read.number == 0 && read.next == 1 + count, made->version,
         opcode, "takes more operands than", count);
 }
 
@@ -181,7 +181,7 @@ static void ask_kind(uint32_t opcode, const struct cell *cell, const struct inst
     switch (cell->kind[k]) {
     case 'D':
         other.token[1 + k] ^= 0x00800000;
-        right = refused(asked(&other), SECOND_OPERAND, 1 + k);
+        right = refused(asked(&other), SECOND_RESERVED, 1 + k, 23);
         break;
     case 'S':
         other.token[1 + k] ^= 0x00800000;
@@ -193,7 +193,7 @@ static void ask_kind(uint32_t opcode, const struct cell *cell, const struct inst
         break;
     case 'U':
         other.token[1 + k] = 0;
-        right = refused(asked(&other), SECOND_OPERAND, 1 + k);
+        right = refused(asked(&other), SECOND_RESERVED, 1 + k, 31);
         break;
     }
     say(right, made->version, opcode, "has another kind of operand at", k + 1);
@@ -209,7 +209,7 @@ static void ask_types(uint32_t opcode, const struct cell *cell, const struct ins
         if (k > 0 && cell->kind[k - 1] == 'U')
             other.token[k] = usage_for(type);
         const struct second_read read = asked(&other);
-        say(takes ? read.number == 0 : refused(read, SECOND_REGISTER, 1 + k), made->version, opcode,
+        say(takes ? read.number == 0 : refused(read, SECOND_REGISTER, 1 + k, 0), made->version, opcode,
             takes ? "refuses a type at" : "takes a type at", k + 1);
     }
 }
