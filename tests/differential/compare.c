@@ -1,7 +1,7 @@
 /*
- * The proved library beside the second program, on the same data: every answer, every record, every note and every
- * buffer is compared, and every record that was read is written back and compared with the stream. Prints
- * each difference (the first few) and, last, 'N passed, M failed'.
+ * The proved library beside the second program, on the same data: every answer with its detail, every record, every note and
+ * every buffer is compared, and every record that was read is written back and compared with the stream. Prints each
+ * difference (the first few), how many operand tokens were given with flipped bits and, last, 'N passed, M failed'.
  *
  *   compare [SEED [ROUNDS]]
  */
@@ -36,12 +36,18 @@ static void show(const char *what, const uint32_t *tokens, size_t length)
     printf(length > 40 ? " ...\n" : "\n");
 }
 
+/* Number, position and detail of any two answers. */
+#define SAME_REFUSAL(expected, given) \
+    ((expected).number == (given).number && (expected).position == (given).position && (expected).detail == (given).detail)
+#define SHOW_REFUSALS(expected, given)                                                                                     \
+    printf("  second %" PRIu32 "@%" PRIu32 " detail %" PRIu32 ", proved %" PRIu32 "@%zu detail %zu\n", (expected).number,   \
+           (expected).position, (expected).detail, (given).number, (given).position, (given).detail)
+
 /* ---- Check ------------------------------------------------------------ */
 
 static bool same_verdict(struct second_verdict expected, struct santubeli_verdict given)
 {
-    return expected.number == given.number && expected.position == given.position
-        && expected.tokens == given.tokens && expected.instructions == given.instructions;
+    return SAME_REFUSAL(expected, given) && expected.tokens == given.tokens && expected.instructions == given.instructions;
 }
 
 static void to_bytes(const uint32_t *tokens, size_t length, uint8_t *bytes)
@@ -60,15 +66,13 @@ static void check_stream(void *context, const uint32_t *tokens, size_t length)
     const struct santubeli_verdict given = santubeli_check_tokens(tokens, length);
     if (count(same_verdict(expected, given))) {
         show("check of tokens", tokens, length);
-        printf("  second %" PRIu32 "@%" PRIu32 " proved %" PRIu32 "@%zu\n", expected.number, expected.position,
-               given.number, given.position);
+        SHOW_REFUSALS(expected, given);
     }
     to_bytes(tokens, length, bytes);
     const struct santubeli_verdict of_bytes = santubeli_check(bytes, 4 * length);
     if (count(same_verdict(expected, of_bytes))) {
         show("check of bytes", tokens, length);
-        printf("  second %" PRIu32 "@%" PRIu32 " proved %" PRIu32 "@%zu\n", expected.number, expected.position,
-               of_bytes.number, of_bytes.position);
+        SHOW_REFUSALS(expected, of_bytes);
     }
 }
 
@@ -159,7 +163,7 @@ _Static_assert(sizeof(struct santubeli_record) == 308, "a record is 308 bytes");
 
 static bool same_reading(const struct second_read *expected, const struct santubeli_reading *given)
 {
-    return expected->number == given->number && expected->position == given->position && expected->next == given->next
+    return SAME_REFUSAL(*expected, *given) && expected->next == given->next
         && memcmp(&expected->record, &given->record, sizeof given->record) == 0;
 }
 
@@ -178,8 +182,8 @@ static void read_at(uint32_t version, const uint32_t *tokens, size_t length, siz
     const struct santubeli_reading given = santubeli_read(version, tokens, length, at);
     if (count(same_reading(&expected, &given))) {
         show("read", tokens, length);
-        printf("  at %zu: second %" PRIu32 "@%" PRIu32 " proved %" PRIu32 "@%zu\n", at, expected.number, expected.position,
-               given.number, given.position);
+        printf("  at %zu, next %" PRIu64 " and %zu\n", at, expected.next, given.next);
+        SHOW_REFUSALS(expected, given);
     }
     if (given.number == 0 && given.record.opcode != SECOND_COMMENT)
         write_back(version, tokens + at, given.next - at, given.record);
@@ -218,12 +222,12 @@ static void note_at(uint32_t version, const uint32_t *tokens, size_t length, siz
 {
     const struct second_noted expected = second_note(version, tokens, length, from);
     const struct santubeli_noted given = santubeli_note(version, tokens, length, from);
-    if (count(expected.number == given.number && expected.position == given.position && expected.notes == given.notes
-              && expected.at == given.at && expected.comments == given.comments && expected.next == given.next)) {
+    if (count(SAME_REFUSAL(expected, given) && expected.notes == given.notes && expected.at == given.at
+              && expected.comments == given.comments && expected.next == given.next)) {
         show("note", tokens, length);
-        printf("  from %zu: second %" PRIu32 "@%" PRIu32 " notes %" PRIu32 " at %" PRIu64 ", proved %" PRIu32 "@%zu notes %" PRIu32
-               " at %zu\n", from, expected.number, expected.position, expected.notes, expected.at, given.number, given.position,
+        printf("  from %zu: notes %" PRIu32 " at %" PRIu64 " and %" PRIu32 " at %zu\n", from, expected.notes, expected.at,
                given.notes, given.at);
+        SHOW_REFUSALS(expected, given);
     }
 }
 
@@ -329,34 +333,104 @@ static void write_all(struct generate_source *source, unsigned rounds)
 
 /* ---- Edit ------------------------------------------------------------- */
 
+static void edit_one(const struct generate_edit *edit)
+{
+    static uint32_t mine[GENERATE_ROOM], theirs[GENERATE_ROOM];
+    memcpy(mine, edit->buffer, edit->buffer_length * sizeof *mine);
+    memcpy(theirs, edit->buffer, edit->buffer_length * sizeof *theirs);
+    const struct second_verdict old = second_check(theirs, edit->n <= edit->buffer_length ? edit->n : 0);
+    const struct second_edited expected =
+        second_edit(theirs, edit->buffer_length, edit->n, edit->i, edit->j, edit->run, edit->m);
+    const struct santubeli_edited given =
+        santubeli_edit(mine, edit->buffer_length, edit->n, edit->i, edit->j, edit->run, edit->m);
+    bool same = SAME_REFUSAL(expected, given) && expected.joined == given.joined && expected.length == given.length
+        && memcmp(mine, theirs, edit->buffer_length * sizeof *mine) == 0;
+    /* a fresh check of the splice: a yes of an accepted stream is a yes */
+    if (same && given.number == 0 && old.number == 0)
+        same = santubeli_check_tokens(mine, given.length).number == 0;
+    if (count(same)) {
+        show("edit", edit->buffer, edit->n <= edit->buffer_length ? edit->n : 0);
+        show("  run", edit->run, edit->m);
+        printf("  n %zu i %zu j %zu m %zu room %zu: joined %" PRIu32 " length %" PRIu64 " and joined %" PRIu32 " length %zu\n",
+               edit->n, edit->i, edit->j, edit->m, edit->buffer_length, expected.joined, expected.length, given.joined,
+               given.length);
+        SHOW_REFUSALS(expected, given);
+    }
+}
+
 static void edit_all(struct generate_source *source, unsigned rounds)
 {
     static struct generate_edit edit;
-    static uint32_t mine[GENERATE_ROOM], theirs[GENERATE_ROOM];
     for (unsigned round = 0; round < rounds; round++) {
         generate_edit(source, round % GENERATE_VERSIONS, round % 64 == 0 ? GENERATE_MAX : 120, &edit);
-        if (edit.m > GENERATE_ROOM)
-            continue; /* such a run is never read, but a slice of it cannot be lent */
-        memcpy(mine, edit.buffer, edit.buffer_length * sizeof *mine);
-        memcpy(theirs, edit.buffer, edit.buffer_length * sizeof *theirs);
-        const struct second_verdict old = second_check(theirs, edit.n <= edit.buffer_length ? edit.n : 0);
-        const struct second_edited expected =
-            second_edit(theirs, edit.buffer_length, edit.n, edit.i, edit.j, edit.run, edit.m);
-        const struct santubeli_edited given =
-            santubeli_edit(mine, edit.buffer_length, edit.n, edit.i, edit.j, edit.run, edit.m);
-        bool same = expected.number == given.number && expected.position == given.position && expected.joined == given.joined
-            && expected.length == given.length && memcmp(mine, theirs, edit.buffer_length * sizeof *mine) == 0;
-        /* a fresh check of the splice: a yes of an accepted stream is a yes */
-        if (same && given.number == 0 && old.number == 0)
-            same = santubeli_check_tokens(mine, given.length).number == 0;
-        if (count(same)) {
-            show("edit", edit.buffer, edit.n <= edit.buffer_length ? edit.n : 0);
-            printf("  n %zu i %zu j %zu m %zu room %zu: second %" PRIu32 "@%" PRIu32 " joined %" PRIu32 " length %" PRIu64
-                   ", proved %" PRIu32 "@%zu joined %" PRIu32 " length %zu\n",
-                   edit.n, edit.i, edit.j, edit.m, edit.buffer_length, expected.number, expected.position, expected.joined,
-                   expected.length, given.number, given.position, given.joined, given.length);
-        }
+        if (edit.m <= GENERATE_ROOM) /* a longer run is never read, but a slice of it cannot be lent */
+            edit_one(&edit);
     }
+}
+
+/* ---- Flipped bits ----------------------------------------------------- */
+
+/* How often the library has given each number with each detail. */
+static uint64_t told[32][32];
+
+/* An operand token with flipped bits: its run as a stream, as a slice that is read, and as the run of an edit. */
+static void compare_run(void *context, const struct generate_run *run)
+{
+    static struct generate_edit edit;
+    uint32_t tokens[sizeof run->tokens / sizeof *run->tokens + 2] = {run->version};
+    const size_t length = run->count + 2;
+    (void)context;
+
+    memcpy(tokens + 1, run->tokens, run->count * sizeof *tokens);
+    tokens[length - 1] = SECOND_END;
+    check_stream(NULL, tokens, length);
+    read_at(run->version, tokens, length, 1 + run->instruction);
+    read_at(run->version, run->tokens + run->instruction, run->count - run->instruction, 0);
+    note_at(run->version, tokens, length, 1);
+
+    /* behind the NOP of an accepted stream */
+    edit.buffer[0] = run->version;
+    edit.buffer[1] = 0;
+    edit.buffer[2] = SECOND_END;
+    edit.n = 3;
+    edit.i = edit.j = 2;
+    edit.m = run->count;
+    edit.buffer_length = edit.n + edit.m;
+    memcpy(edit.run, run->tokens, run->count * sizeof *edit.run);
+    edit_one(&edit);
+
+    const struct santubeli_verdict given = santubeli_check_tokens(tokens, length);
+    if (given.number < 32 && given.detail < 32)
+        told[given.number][given.detail]++;
+}
+
+/* Each bit is told as RESERVED by some token, one of each of the other two, and none by any other number. */
+static bool is_told(unsigned number, unsigned bit)
+{
+    switch (number) {
+    case SANTUBELI_RESERVED: return true;
+    case SANTUBELI_MODIFIER: return bit == 24;
+    case SANTUBELI_RELATIVE: return bit == 13;
+    default: return bit == 0 && (number == 0 || number == SANTUBELI_SIZE || number == SANTUBELI_REGISTER);
+    }
+}
+
+static void flip_all(void)
+{
+    const uint64_t before = passed + failed;
+    const size_t tokens = generate_flipped(compare_run, NULL);
+    uint64_t runs = 0;
+
+    printf("%zu operand tokens with each bit and each two bits flipped: %" PRIu64 " comparisons\n", tokens,
+           passed + failed - before);
+    for (unsigned number = 0; number < 32; number++)
+        for (unsigned bit = 0; bit < 32; bit++) {
+            runs += told[number][bit];
+            if (count((told[number][bit] > 0) == is_told(number, bit)))
+                printf("number %u with detail %u: given %" PRIu64 " times\n", number, bit, told[number][bit]);
+        }
+    if (count(tokens > 1000 && runs == (uint64_t)tokens * GENERATE_FLIPS))
+        printf("%" PRIu64 " runs\n", runs);
 }
 
 int main(int argc, char **argv)
@@ -370,6 +444,7 @@ int main(int argc, char **argv)
     note_all(&source, rounds / 4);
     write_all(&source, rounds);
     edit_all(&source, 2 * rounds);
+    flip_all();
     printf("%" PRIu64 " passed, %" PRIu64 " failed\n", passed, failed);
     return failed != 0;
 }

@@ -82,6 +82,24 @@ size_t generate_nested(struct generate_source *source, unsigned version,
 typedef void generate_visit(void *context, const uint32_t *tokens, size_t count);
 uint64_t generate_systematic(generate_visit *visit, void *context);
 
+/*
+ * One operand token of a lawful run of instructions, and the same with bits of
+ * it flipped: none, each one, and each two, GENERATE_FLIPS runs for one token.
+ * The tokens are, in every version, those of every shape of operands with every
+ * type that the place takes, with relative tokens and predicates where they may
+ * be, and of DCL in every form. Gives how many tokens there were.
+ */
+enum { GENERATE_FLIPS = 1 + 32 + 32 * 31 / 2 };
+
+struct generate_run {
+    uint32_t version; /* its first token */
+    uint32_t tokens[GENERATE_INSTRUCTION + 16];
+    size_t count;
+    size_t instruction; /* where the instruction with the token begins */
+};
+typedef void generate_visit_run(void *context, const struct generate_run *run);
+size_t generate_flipped(generate_visit_run *visit, void *context);
+
 /* ---- Edits ------------------------------------------------------------ */
 
 struct generate_edit {
