@@ -20,14 +20,45 @@ static void expect(bool right, const char *what)
     }
 }
 
+/* The structs as the header has them, the detail behind the position. */
+#define STANDS(type, field, offset) _Static_assert(offsetof(struct type, field) == (offset), #type "." #field)
+STANDS(santubeli_verdict, position, 8);
+STANDS(santubeli_verdict, detail, 16);
+STANDS(santubeli_verdict, tokens, 24);
+STANDS(santubeli_verdict, instructions, 32);
+STANDS(santubeli_reading, position, 8);
+STANDS(santubeli_reading, detail, 16);
+STANDS(santubeli_reading, next, 24);
+STANDS(santubeli_reading, record, 32);
+STANDS(santubeli_noted, position, 8);
+STANDS(santubeli_noted, detail, 16);
+STANDS(santubeli_noted, notes, 24);
+STANDS(santubeli_noted, at, 32);
+STANDS(santubeli_noted, comments, 40);
+STANDS(santubeli_noted, next, 48);
+STANDS(santubeli_written, position, 8);
+STANDS(santubeli_written, next, 16);
+STANDS(santubeli_edited, position, 8);
+STANDS(santubeli_edited, detail, 16);
+STANDS(santubeli_edited, joined, 24);
+STANDS(santubeli_edited, length, 32);
+_Static_assert(sizeof(struct santubeli_verdict) == 40 && sizeof(struct santubeli_reading) == 344
+                   && sizeof(struct santubeli_noted) == 56 && sizeof(struct santubeli_written) == 24
+                   && sizeof(struct santubeli_edited) == 40, "nothing stands behind the last field");
+
+static bool refused_with(struct santubeli_verdict v, uint32_t number, size_t position, size_t detail)
+{
+    return v.number == number && v.position == position && v.detail == detail && v.tokens == 0 && v.instructions == 0;
+}
+
 static bool refused(struct santubeli_verdict v, uint32_t number, size_t position)
 {
-    return v.number == number && v.position == position && v.tokens == 0 && v.instructions == 0;
+    return refused_with(v, number, position, 0);
 }
 
 static bool accepted(struct santubeli_verdict v, size_t tokens, size_t instructions)
 {
-    return v.number == 0 && v.position == 0 && v.tokens == tokens && v.instructions == instructions;
+    return v.number == 0 && v.position == 0 && v.detail == 0 && v.tokens == tokens && v.instructions == instructions;
 }
 
 static const uint32_t move[] = {0xFFFE0200, 0x02000001, 0x800F0000, 0xA0E40000, 0x0000FFFF};
@@ -67,16 +98,22 @@ static void check_entries(void)
     expect(refused(santubeli_check(bytes, 4 * SANTUBELI_MOST_TOKENS + 1), SANTUBELI_LENGTH, 0), "65,537 bytes");
 }
 
-static bool unread(struct santubeli_reading r, uint32_t number, size_t position)
+static bool unread_with(struct santubeli_reading r, uint32_t number, size_t position, size_t detail)
 {
     static const struct santubeli_record none;
-    return r.number == number && r.position == position && r.next == 0 && memcmp(&r.record, &none, sizeof none) == 0;
+    return r.number == number && r.position == position && r.detail == detail && r.next == 0
+        && memcmp(&r.record, &none, sizeof none) == 0;
+}
+
+static bool unread(struct santubeli_reading r, uint32_t number, size_t position)
+{
+    return unread_with(r, number, position, 0);
 }
 
 static void read_entries(void)
 {
     struct santubeli_reading r = santubeli_read(0xFFFE0200, move, 5, 1);
-    expect(r.number == 0 && r.position == 0 && r.next == 4, "reading mov");
+    expect(r.number == 0 && r.position == 0 && r.detail == 0 && r.next == 4, "reading mov");
     expect(r.record.opcode == 1 && r.record.operands[0].mask == 0xF && r.record.operands[1].type == 2
                && r.record.operands[1].swizzle == 0xE4,
            "the record of mov r0, c0");
@@ -116,9 +153,14 @@ static void write_entries(void)
            "mov written behind the first token, and nothing else");
 }
 
+static bool unedited_with(struct santubeli_edited e, uint32_t number, size_t position, size_t detail)
+{
+    return e.number == number && e.position == position && e.detail == detail && e.joined == 0 && e.length == 0;
+}
+
 static bool unedited(struct santubeli_edited e, uint32_t number, size_t position)
 {
-    return e.number == number && e.position == position && e.joined == 0 && e.length == 0;
+    return unedited_with(e, number, position, 0);
 }
 
 /* Document 01's stream E: if b0, else, endif. */
@@ -144,9 +186,10 @@ static void edit_entries(void)
     expect(memcmp(buffer, branch, sizeof branch) == 0 && buffer[6] == 0xDEAD, "refusals write nothing");
 
     struct santubeli_edited e = santubeli_edit(buffer, 8, 6, 3, 4, otherwise, 1);
-    expect(e.number == 0 && e.joined == 1 && e.length == 6 && memcmp(buffer, branch, sizeof branch) == 0, "ELSE for ELSE is JOINED");
+    expect(e.number == 0 && e.detail == 0 && e.joined == 1 && e.length == 6 && memcmp(buffer, branch, sizeof branch) == 0,
+           "ELSE for ELSE is JOINED");
     e = santubeli_edit(buffer, 8, 6, 3, 4, NULL, 0);
-    expect(e.number == 0 && e.joined == 0 && e.length == 5, "without its ELSE: ACCEPTED");
+    expect(e.number == 0 && e.detail == 0 && e.joined == 0 && e.length == 5, "without its ELSE: ACCEPTED");
     expect(buffer[3] == 0x0000002B && buffer[4] == 0x0000FFFF && buffer[5] == 0x0000FFFF && buffer[6] == 0xDEAD,
            "the splice, and what lies past it as before");
 }
@@ -262,12 +305,19 @@ static void edit_first_versions(void)
 
 static bool noted(struct santubeli_noted n, uint32_t notes, size_t at, size_t comments, size_t next)
 {
-    return n.number == 0 && n.position == 0 && n.notes == notes && n.at == at && n.comments == comments && n.next == next;
+    return n.number == 0 && n.position == 0 && n.detail == 0 && n.notes == notes && n.at == at && n.comments == comments
+        && n.next == next;
+}
+
+static bool unnoted_with(struct santubeli_noted n, uint32_t number, size_t position, size_t detail)
+{
+    return n.number == number && n.position == position && n.detail == detail && n.notes == 0 && n.at == 0
+        && n.comments == 0 && n.next == 0;
 }
 
 static bool unnoted(struct santubeli_noted n, uint32_t number, size_t position)
 {
-    return n.number == number && n.position == position && n.notes == 0 && n.at == 0 && n.comments == 0 && n.next == 0;
+    return unnoted_with(n, number, position, 0);
 }
 
 /* The shapes of docs/DRIVERS.md, each in its shortest stream, and the search from any place. */
@@ -307,11 +357,76 @@ static void note_entries(void)
     expect(unnoted(santubeli_note(move[0], move, 5, 2), SANTUBELI_BITS, 2), "a place inside an instruction");
 }
 
+/* Document 02, Q-3: the bit through every entry, wherever the instruction stands. */
+struct fault {
+    const char *what;
+    uint32_t version;
+    uint32_t instruction[5];
+    size_t count;
+    uint32_t number;
+    size_t place, bit; /* the place counts from the instruction */
+};
+
+static const struct fault faults[] = {
+    {"a reserved bit", 0xFFFE0200, {0x02000001, 0x800F4000, 0xA0E40000}, 3, SANTUBELI_RESERVED, 1, 14},
+    {"bit 31 is missing", 0xFFFE0200, {0x02000001, 0x000F4000, 0xA0E40000}, 3, SANTUBELI_RESERVED, 1, 31},
+    {"a usage that is none", 0xFFFF0300, {0x0200001F, 0x8000000E, 0x900F0000}, 3, SANTUBELI_RESERVED, 1, 0},
+    {"a sampler without a texture type", 0xFFFF0200, {0x0200001F, 0x80000000, 0xA00F0800}, 3, SANTUBELI_RESERVED, 1, 27},
+    {"a face with a mask", 0xFFFF0300, {0x0200001F, 0x80000000, 0x91073001}, 3, SANTUBELI_RESERVED, 2, 16},
+    {"reserved before relative", 0xFFFF0200, {0x02000001, 0x800F0800, 0xA7E4E000}, 3, SANTUBELI_RESERVED, 2, 14},
+    {"a bit of the result in vs_1_1", 0xFFFE0101, {0x00000001, 0x804F0000, 0xA0E40000}, 3, SANTUBELI_RESERVED, 1, 22},
+    {"a modifier", 0xFFFF0200, {0x02000001, 0x800F0800, 0xA7E40000}, 3, SANTUBELI_MODIFIER, 2, 24},
+    {"a predicate's modifier", 0xFFFE0300, {0x13000001, 0x800F0000, 0xB1E41000, 0xA0E40000}, 4, SANTUBELI_MODIFIER, 2, 24},
+    {"a relative token's modifier", 0xFFFE0200, {0x03000001, 0x800F0000, 0xA0E42000, 0xB2000000}, 4, SANTUBELI_MODIFIER, 3, 24},
+    {"a modifier of ps_1_4 in ps_1_3", 0xFFFF0103, {0x00000001, 0x800F0000, 0x87E40001}, 3, SANTUBELI_MODIFIER, 2, 24},
+    {"relative before the modifier", 0xFFFF0200, {0x02000001, 0x800F0800, 0xA7E42000}, 3, SANTUBELI_RELATIVE, 2, 13},
+    {"a relative destination", 0xFFFE0200, {0x03000001, 0x800F2000, 0xB0000000, 0xA0E40000}, 4, SANTUBELI_RELATIVE, 1, 13},
+    {"a relative source in ps_1_1", 0xFFFF0101, {0x00000001, 0x800F0000, 0xA0E42000}, 3, SANTUBELI_RELATIVE, 2, 13},
+};
+
+static void fault_through_entries(const struct fault *fault)
+{
+    /* version, NOP, the instruction, END */
+    uint32_t tokens[8] = {fault->version, 0}, buffer[8] = {fault->version, 0, 0x0000FFFF};
+    const uint32_t before[8] = {fault->version, 0, 0x0000FFFF};
+    uint8_t bytes[sizeof tokens];
+    const size_t count = fault->count + 3, at = 2 + fault->place;
+
+    memcpy(tokens + 2, fault->instruction, fault->count * sizeof *tokens);
+    tokens[count - 1] = 0x0000FFFF;
+    memcpy(bytes, tokens, sizeof bytes);
+    expect(refused_with(santubeli_check_tokens(tokens, count), fault->number, at, fault->bit), fault->what);
+    expect(refused_with(santubeli_check(bytes, 4 * count), fault->number, at, fault->bit), fault->what);
+    expect(unread_with(santubeli_read(fault->version, tokens, count, 2), fault->number, at, fault->bit), fault->what);
+    expect(unread_with(santubeli_read(fault->version, fault->instruction, fault->count, 0), fault->number, fault->place, fault->bit),
+           fault->what);
+    expect(unnoted_with(santubeli_note(fault->version, tokens, count, 1), fault->number, at, fault->bit), fault->what);
+    expect(unedited_with(santubeli_edit(buffer, 8, 3, 2, 2, fault->instruction, fault->count), fault->number, at, fault->bit),
+           fault->what);
+    expect(unedited_with(santubeli_edit(buffer, 8, 3, 1, 2, fault->instruction, fault->count), fault->number, at - 1, fault->bit),
+           fault->what);
+    expect(memcmp(buffer, before, sizeof buffer) == 0, "a refusal with a bit writes nothing");
+}
+
+static void fault_entries(void)
+{
+    for (size_t k = 0; k < sizeof faults / sizeof *faults; k++)
+        fault_through_entries(&faults[k]);
+
+    /* the layout before the type, and no detail of the type */
+    const uint32_t typed[] = {0xFFFE0200, 0x02000001, 0x800F0000, 0xBDE41000, 0x0000FFFF};
+    expect(refused(santubeli_check_tokens(typed, 5), SANTUBELI_REGISTER, 3), "a type has no detail");
+    /* of a refused stream, walked again without its ELSE: the fault where it stands now */
+    uint32_t buffer[] = {0xFFFE0200, 0x01000028, 0xE0E40800, 0x0000002A, 0x02000001, 0x800F4000, 0xA0E40000, 0x0000002B, 0x0000FFFF};
+    expect(unedited_with(santubeli_edit(buffer, 9, 9, 3, 4, NULL, 0), SANTUBELI_RESERVED, 4, 14), "a fault behind the edit");
+}
+
 int main(void)
 {
     check_entries();
     read_entries();
     note_entries();
+    fault_entries();
     write_entries();
     edit_entries();
     predicate_entries();
