@@ -10,8 +10,8 @@ import pathlib
 import struct
 import sys
 
-NUMBERS = {1: 'LENGTH', 2: 'VERSION', 3: 'OPCODE', 4: 'BITS', 5: 'RUN-OUT', 6: 'SIZE', 7: 'OPERAND', 8: 'REGISTER',
-           9: 'BLOCK', 10: 'DEPTH', 11: 'TAIL'}
+NUMBERS = {1: 'LENGTH', 2: 'VERSION', 3: 'OPCODE', 4: 'BITS', 5: 'RUN-OUT', 6: 'SIZE', 8: 'REGISTER', 9: 'BLOCK',
+           10: 'DEPTH', 11: 'TAIL', 16: 'RESERVED', 17: 'MODIFIER', 18: 'RELATIVE'}
 VERSIONS = {0xFFFE0101: 'vs_1_1', 0xFFFE0200: 'vs_2_0', 0xFFFE0300: 'vs_3_0',
             0xFFFF0101: 'ps_1_1', 0xFFFF0102: 'ps_1_2', 0xFFFF0103: 'ps_1_3', 0xFFFF0104: 'ps_1_4',
             0xFFFF0200: 'ps_2_0', 0xFFFF0300: 'ps_3_0'}
