@@ -1,11 +1,15 @@
-// Checks one shader on standard input and prints one line: `accept tokens 5 instructions 1` or `refuse 9 at 3`. Behind an accept stands a line for each
-// instruction with a shape that a named driver reads otherwise, as `note 3 at 5 comments 3`.
+// Checks one shader on standard input and prints a line: `accept tokens 5 instructions 1`, `refuse 9 at 3` or, where a token's layout is wrong,
+// `refuse 16 at 2 bit 14`. Behind an accept stands a line for each instruction with a shape that a named driver reads otherwise, as
+// `note 3 at 5 comments 3`; behind a refusal with a bit a line that says which operand it is of, as
+// `token 2148483072 operand 1 place 63 instruction 1 version 4294836736`, of a DCL's usage token with ` destination 2416902144` at its end.
 // Where the input cannot be read there is no verdict: a line on standard error says why.
+mod fault;
 mod input;
 
 use libc::STDOUT_FILENO;
 use notes::Note;
 use notes::Noted;
+use paper::Reason;
 use paper::Refusal;
 use paper::Verdict;
 
@@ -18,13 +22,58 @@ fn print_accepted(tokens: usize, instructions: usize) -> bool {
         && io::write_all(STDOUT_FILENO, b"\n")
 }
 
-fn print_refused(refusal: Refusal) -> bool {
-    let reason = refusal.reason;
-    io::write_all(STDOUT_FILENO, b"refuse ")
-        && io::print_decimal(STDOUT_FILENO, paper::number_of(reason) as u64)
-        && io::write_all(STDOUT_FILENO, b" at ")
-        && io::print_decimal(STDOUT_FILENO, refusal.position as u64)
+// A word and a number.
+fn print_number(word: &[u8], number: u64) -> bool {
+    io::write_all(STDOUT_FILENO, word) && io::print_decimal(STDOUT_FILENO, number)
+}
+
+// Which operand it is, of a refusal with a bit. A DCL's usage token is judged by its destination, which stands behind it.
+fn print_fault(version: u32, tokens: &[u32], position: usize) -> bool {
+    let fault = fault::fault_at(version, tokens, position);
+    let place = fault.place;
+    print_number(b"token ", fault::token_at(tokens, position) as u64)
+        && print_number(b" operand ", fault.operand as u64)
+        && print_number(b" place ", place)
+        && print_number(b" instruction ", fault.instruction as u64)
+        && print_number(b" version ", version as u64)
+        && (place != places::USAGE
+            || print_number(
+                b" destination ",
+                fault::token_at(tokens, std::num::wrapping_add_usize(position, 1)) as u64,
+            ))
         && io::write_all(STDOUT_FILENO, b"\n")
+}
+
+// As many tokens as the longest lawful stream has.
+fn print_decoded(bytes: &[u8], position: usize) -> bool {
+    let mut tokens = [0u32; 16384];
+    let held = byte_checker::decode(bytes, &mut tokens);
+    print_fault(tokens[0], &tokens[..held], position)
+}
+
+// Whether the detail of a refusal is a bit.
+fn has_bit(reason: Reason) -> bool {
+    match reason {
+        Reason::Reserved => true,
+        Reason::Modifier => true,
+        Reason::Relative => true,
+        _ => false,
+    }
+}
+
+fn print_refused(bytes: &[u8], refusal: Refusal) -> bool {
+    let reason = refusal.reason;
+    if !(print_number(b"refuse ", paper::number_of(reason) as u64)
+        && print_number(b" at ", refusal.position as u64))
+    {
+        return false;
+    }
+    if has_bit(reason) {
+        return print_number(b" bit ", refusal.detail as u64)
+            && io::write_all(STDOUT_FILENO, b"\n")
+            && print_decoded(bytes, refusal.position);
+    }
+    io::write_all(STDOUT_FILENO, b"\n")
 }
 
 fn print_note(note: Note) -> bool {
@@ -68,7 +117,7 @@ fn print_accepted_with_notes(bytes: &[u8], instructions: usize) -> bool {
 fn print_verdict(bytes: &[u8], verdict: Verdict) -> bool {
     match verdict {
         Verdict::Accepted(instructions) => print_accepted_with_notes(bytes, instructions),
-        Verdict::Refused(refusal) => print_refused(refusal),
+        Verdict::Refused(refusal) => print_refused(bytes, refusal),
     }
 }
 
