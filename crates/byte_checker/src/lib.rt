@@ -130,7 +130,9 @@ fn walk_view(
     };
     while walk::goes_on(step, view.until) {
         let state = step.state;
-        step = walk::pass(version, state, part, state.at - view.start, stop, beyond);
+        let at = state.at - view.start;
+        let stretch = stretches::judge_stretch(version, part, at, stop, beyond);
+        step = walk::step_over(state, stretch.at - at, stretch.count, stretch.told);
     }
     step
 }

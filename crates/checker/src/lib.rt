@@ -51,21 +51,23 @@ enum ItemEnd {
 fn refused_item(reason: Reason, position: usize, detail: usize) -> ItemEnd
     ensures { λ r. ⌜ r ≡ ItemEnd.Refused (refusalAtBit reason position detail) ⌝ }
 {
-    ItemEnd::Refused(Refusal {
+    let refusal = Refusal {
         reason,
         position,
         detail,
-    })
+    };
+    ItemEnd::Refused(refusal)
 }
 
 fn refused(reason: Reason, position: usize) -> Verdict
     ensures { λ r. ⌜ r ≡ Verdict.Refused (refusal reason position) ⌝ }
 {
-    Verdict::Refused(Refusal {
+    let refusal = Refusal {
         reason,
         position,
         detail: 0,
-    })
+    };
+    Verdict::Refused(refusal)
 }
 
 fn may_stand(single: Single, depth: usize, in_loop: bool, phased: bool) -> bool

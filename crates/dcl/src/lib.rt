@@ -1,10 +1,10 @@
 // The operands of DCL: document 01, "DCL", with document 02's Q-3 and Q-6.
 ghost use mathlib.Core.Path.{_≡_};
-ghost use Rattle.paper.specs.Numbers.{toldToken};
-ghost use Rattle.paper.specs.OperandTokens.{typeOf};
-ghost use Rattle.paper.specs.Dcl.{samplerForm, usageForm, formLaid, isDeclared, positionOrFace, faceLaid, declaredAt, usageLaid, usageAt, declaration};
+ghost use mathlib.Core.Bool.{_&&_};
+ghost use Rattle.paper.specs.OperandTokens.{typeOf, laid};
+ghost use Rattle.paper.specs.Places.{declared};
+ghost use Rattle.paper.specs.Dcl.{samplerForm, usageForm, formLaid, isDeclared, positionOrFace, faceLaid, usageLaid, declaration};
 ghost use Rattle.told.specs.Numbered.{operandsNumber};
-ghost use Rattle.dcl.specs.Concluded.{concluded};
 use paper::Version;
 
 // The register type of position and face.
@@ -67,48 +67,17 @@ fn is_declared(version: Version, destination: u32) -> bool
     form != versions::NO_FORM
 }
 
-// What is told of the destination.
-fn declared_at(version: Version, destination: u32) -> u32
-    ensures { λ r. ⌜ r ≡ toldToken (declaredAt version destination) ⌝ }
+// Whether the destination is laid out as DCL wants it, type 17's rules among that.
+fn destination_laid(version: Version, destination: u32) -> bool
+    ensures { λ r. ⌜ r ≡ (laid version declared destination && faceLaid version destination) ⌝ }
 {
     let laid = layout::typed_destination_laid(version, destination);
     let face = face_laid(version, destination);
-    if laid & face {
-        if is_declared(version, destination) {
-            return 0;
-        }
-        return paper::REGISTER;
-    }
-    faults::declared_fault(version, destination)
+    laid & face
 }
 
-// What is told of U.
-fn usage_at(version: Version, destination: u32, usage: u32) -> u32
-    ensures { λ r. ⌜ r ≡ toldToken (usageAt version (typeOf destination) usage) ⌝ }
-{
-    if usage_laid(version, destination, usage) {
-        return 0;
-    }
-    faults::usage_fault(version, destination, usage)
-}
-
-// The destination is judged first, then U, then what is left over.
-fn conclude(destination: u32, usage: u32, no_more: bool) -> u64
-    ensures { λ r. ⌜ r ≡ concluded destination usage «no_more» ⌝ }
-{
-    if destination != 0 {
-        return told::refused(destination, 2);
-    }
-    if usage != 0 {
-        return told::refused(usage, 1);
-    }
-    if no_more {
-        return told::FIT;
-    }
-    told::refused(paper::SIZE, 0)
-}
-
-// What is told of the tokens behind a DCL's instruction token: U, the destination, and no more.
+// What is told of the tokens behind a DCL's instruction token: U, the destination, and no more. The destination is judged first, then U, then what is
+// left over.
 pub fn judge_declaration(version: Version, behind: &[u32]) -> u64
     ensures { λ r. ⌜ r ≡ operandsNumber (declaration version (now (behind .entry))) ⌝ }
 {
@@ -117,7 +86,17 @@ pub fn judge_declaration(version: Version, behind: &[u32]) -> u64
     }
     let usage = behind[0];
     let destination = behind[1];
-    let declared = declared_at(version, destination);
-    let used = usage_at(version, destination, usage);
-    conclude(declared, used, behind.len() == 2)
+    if !destination_laid(version, destination) {
+        return told::refused(faults::declared_fault(version, destination), 2);
+    }
+    if !is_declared(version, destination) {
+        return told::refused(paper::REGISTER, 2);
+    }
+    if !usage_laid(version, destination, usage) {
+        return told::refused(faults::usage_fault(version, destination, usage), 1);
+    }
+    if behind.len() == 2 {
+        return told::FIT;
+    }
+    told::refused(paper::SIZE, 0)
 }

@@ -8,9 +8,8 @@ use native.Mathlib.Omega.{arith}
 use lib.Dec.{eqb, lit<}
 use lib.ListN.{length, drop, getD, drop-of-length-le}
 use lib.Seq.{drop-cons}
-use borrow.Author.Tests.{ne-eqb, eqb-true, eqb-false}
+use borrow.Author.Tests.{eq-eqb, ne-eqb, eqb-true, eqb-false}
 use Rattle.paper.specs.Notation.{bits, bit, pick}
-use Rattle.paper.specs.Numbers.{toldToken}
 use Rattle.paper.specs.Versions.{isPixel, hasSizes}
 use Rattle.paper.specs.OperandTokens.{relativeSources, relativeDestinations, markedSources, hasShiftScale, isFree, bothLaid, sourceModifier, modifierOf, laid, typed, typeOf, tokenAt, bringsRelative, leftOver}
 use Rattle.paper.specs.Places.{Types, free, only, Place, freeDestination, destination, source, relative}
@@ -22,13 +21,13 @@ use Rattle.paper.specs.declared.Taken.{Taken}
 use Rattle.paper.specs.declared.Taken.the-variants.{Took, Refused as refused}
 use Rattle.paper.proofs.Bools.{both-left, both-right, and-false, never, apart}
 use Rattle.paper.proofs.Faults.{isGood, token-good}
-use Rattle.paper.proofs.OneToOne.{no-fault-zero}
 use Rattle.paper.proofs.VersionTokens.{each}
 use Rattle.versions.specs.Sets.{holds}
 use Rattle.tokens.specs.Plain.{plainSource}
 use Rattle.tokens.specs.Good.{goodWritten, sourceLaidIn, goodRead}
 use Rattle.layout.proofs.Layouts.{destination-order}
-use Rattle.tokens.proofs.TokenAt.{plain-source-laid}
+use Rattle.tokens.specs.Brief.{brief}
+use Rattle.tokens.proofs.TokenAt.{plain-source-laid, brief-good}
 use Rattle.operands.proofs.OperandAt.{relative-at, operand-at}
 use Rattle.uniform.specs.Uniform.{sources}
 use Rattle.door.specs.Door.{tookIn, isFit, Meant}
@@ -43,23 +42,18 @@ took-pick true next other = refl
 took-pick false next other = refl
 
 -- the relative token
-module _ (v : Version) (offset at told : ℕ) (behind : List ℕ) (h : at < length behind) (e : told ≡ toldToken (tokenAt v relative (getD behind at 0))) where
-  told-good : (t : Token) → told ≡ toldToken t → told ≡ 0 → isGood t ≡ true
-  told-good Good s z = refl
-  told-good (Bad reason bit) s z = absurd (no-fault-zero reason bit (sym z ∙ s))
-
-  told-bad : (t : Token) → told ≡ toldToken t → (told ≡ 0 → ⊥) → isGood t ≡ false
-  told-bad Good s z = absurd (z s)
-  told-bad (Bad reason bit) s z = refl
+module _ (v : Version) (offset at told : ℕ) (behind : List ℕ) (h : at < length behind) (e : told ≡ brief v relative (getD behind at 0)) where
+  told-good : eqb told 0 ≡ isGood (tokenAt v relative (getD behind at 0))
+  told-good = rw e (brief-good v relative (getD behind at 0))
 
   took : tookIn (relativeToken v offset (drop at behind)) ≡ pick (isGood (tokenAt v relative (getD behind at 0))) 2 0
   took = rw (relative-at v offset at behind h) (took-by (tokenAt v relative (getD behind at 0)) offset (Took 2))
 
   pub relative-took : told ≡ 0 → tookIn (relativeToken v offset (drop at behind)) ≡ 2
-  relative-took z = rw took (rw (told-good (tokenAt v relative (getD behind at 0)) e z) refl)
+  relative-took z = rw took (rw (sym told-good ∙ eq-eqb told 0 z) refl)
 
   pub relative-refused : (told ≡ 0 → ⊥) → tookIn (relativeToken v offset (drop at behind)) ≡ 0
-  relative-refused z = rw took (rw (told-bad (tokenAt v relative (getD behind at 0)) e z) refl)
+  relative-refused z = rw took (rw (sym told-good ∙ ne-eqb told 0 z) refl)
 
 -- what sizes have to do with bit 13
 implied : (a b : Bool) → not a || b ≡ true → a ≡ true → b ≡ true

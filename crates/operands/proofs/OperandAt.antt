@@ -24,6 +24,8 @@ use Rattle.paper.specs.declared.Operands.the-variants.{Fit, Refused as Unfit}
 use Rattle.paper.specs.Places.{Place, relative}
 use Rattle.places.specs.Places.{placeBy, placesIn, decoded}
 use Rattle.told.specs.Numbered.{faultNumber, tookNumber, takenNumber}
+use Rattle.tokens.specs.Brief.{brief}
+use Rattle.tokens.proofs.TokenAt.{brief-good}
 use Rattle.operands.proofs.Numbers.{on-token-number, taken-pick}
 use Rattle.places.proofs.Decoding.{decoded-zero, decoded-step}
 
@@ -49,10 +51,11 @@ operand-at v place offset at behind h = rw (drop-cons behind at 0 h, add-one at)
 
 -- what is told of an operand, by what is told of its token
 pub relative-number : (v : Version) (offset at told : ℕ) (behind : List ℕ) → at < length behind →
-    told ≡ toldToken (tokenAt v relative (getD behind at 0)) →
-    takenNumber (relativeToken v offset (drop at behind)) ≡ pick (eqb told 0) (tookNumber 2) (faultNumber told offset)
+    told ≡ brief v relative (getD behind at 0) →
+    takenNumber (relativeToken v offset (drop at behind)) ≡ pick (eqb told 0) (tookNumber 2) (faultNumber (toldToken (tokenAt v relative (getD behind at 0))) offset)
 relative-number v offset at told behind h e =
-    rw (relative-at v offset at behind h) (on-token-number (tokenAt v relative (getD behind at 0)) told offset (Took 2) e)
+    rw (relative-at v offset at behind h, e)
+    (on-token-number (tokenAt v relative (getD behind at 0)) (eqb (brief v relative (getD behind at 0)) 0) offset (Took 2) (brief-good v relative (getD behind at 0)))
 
 module _ (v : Version) (place : Place) (offset at told : ℕ) (behind : List ℕ) (h : at < length behind) where
   abbrev token : ℕ
@@ -61,19 +64,19 @@ module _ (v : Version) (place : Place) (offset at told : ℕ) (behind : List ℕ
   abbrev brought : Taken
   brought = relativeToken v (offset + 1) (drop (at + 1) behind)
 
-  module _ (e : told ≡ toldToken (tokenAt v place token)) where
+  module _ (e : told ≡ brief v place token) where
     operand-number : takenNumber (operand v place offset (drop at behind)) ≡
-        pick (eqb told 0) (pick (bringsRelative place token) (takenNumber brought) (tookNumber 1)) (faultNumber told offset)
+        pick (eqb told 0) (pick (bringsRelative place token) (takenNumber brought) (tookNumber 1)) (faultNumber (toldToken (tokenAt v place token)) offset)
     operand-number =
-        rw (operand-at v place offset at behind h, ← (taken-pick (bringsRelative place token) brought (Took 1)))
-        (on-token-number (tokenAt v place token) told offset (pick (bringsRelative place token) brought (Took 1)) e)
+        rw (operand-at v place offset at behind h, ← (taken-pick (bringsRelative place token) brought (Took 1)), e)
+        (on-token-number (tokenAt v place token) (eqb (brief v place token) 0) offset (pick (bringsRelative place token) brought (Took 1)) (brief-good v place token))
 
     pub free-number : isFree place ≡ true → takenNumber (operand v place offset (drop at behind)) ≡
-        pick (eqb told 0) (pick (eqb (bit 13 token) 1) (takenNumber brought) (tookNumber 1)) (faultNumber told offset)
+        pick (eqb told 0) (pick (eqb (bit 13 token) 1) (takenNumber brought) (tookNumber 1)) (faultNumber (toldToken (tokenAt v place token)) offset)
     free-number is-free = rw is-free at operand-number
 
     pub typed-number : isFree place ≡ false →
-        takenNumber (operand v place offset (drop at behind)) ≡ pick (eqb told 0) (tookNumber 1) (faultNumber told offset)
+        takenNumber (operand v place offset (drop at behind)) ≡ pick (eqb told 0) (tookNumber 1) (faultNumber (toldToken (tokenAt v place token)) offset)
     typed-number not-free = rw not-free at operand-number
 
 -- an operand takes tokens that are there

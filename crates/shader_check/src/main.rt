@@ -64,8 +64,7 @@ fn has_bit(reason: Reason) -> bool {
 fn print_refused(bytes: &[u8], refusal: Refusal) -> bool {
     let reason = refusal.reason;
     if !(print_number(b"refuse ", paper::number_of(reason) as u64)
-        && print_number(b" at ", refusal.position as u64))
-    {
+        && print_number(b" at ", refusal.position as u64)) {
         return false;
     }
     if has_bit(reason) {

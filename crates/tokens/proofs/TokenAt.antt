@@ -1,6 +1,6 @@
 -- Laws of one token at its place.
 use mathlib.Core.Path.{_≡_, refl, sym, _∙_}
-use mathlib.Core.Bool.{Bool, true, false, not, _||_}
+use mathlib.Core.Bool.{Bool, true, false, not, _&&_, _||_}
 use mathlib.Core.List.{List, [], _∷_}
 use Prim.Native.Nat.{ℕ, zero, suc, _*_, _%_, _^_, _<_, _≤_}
 use native.Mathlib.Nat.{add-zero, one-mul, mod-lt, mod-eq-of-lt, pow-le-pow-right}
@@ -8,31 +8,61 @@ use native.Mathlib.Omega.{arith}
 use lib.Dec.{eqb, leb, ltb, lit<}
 use borrow.Author.Tests.{eq-eqb, ne-eqb, leb-true, ltb-true, le-ltb, not-true}
 use Rattle.paper.specs.Notation.{bits, bit, pick, among}
-use Rattle.paper.specs.OperandTokens.{modifierOf, plainModifiers, predicateTypes, isFree, destinationLaid, sourceLaid, laid, typed, typeOf, tokenAt}
+use Rattle.paper.specs.OperandTokens.{modifierOf, plainModifiers, predicateTypes, isFree, destinationLaid, sourceLaid, laid, typed, typeOf, faultAt, layoutThenType, tokenAt}
 use Rattle.versions.specs.Sets.{setOf, holds}
 use Rattle.versions.proofs.Sets.{Agrees, set-among, one-among}
 use Rattle.versions.proofs.Types.{type-small}
 use Rattle.places.specs.Places.{onlyType, typesBy, placeBy}
 use Rattle.places.proofs.Places.{by-place}
 use Rattle.paper.specs.declared.Version.{Version}
-use Rattle.paper.specs.declared.Token.the-variants.{Good}
-use Rattle.paper.proofs.Bools.{both-left, both-right, never}
+use Rattle.paper.proofs.Bools.{both-left, both-right, never, apart}
+use Rattle.paper.proofs.Faults.{isGood, token-good}
+use Rattle.paper.specs.Numbers.{toldToken}
 use Rattle.paper.proofs.Below.{below, below-at}
 use Rattle.paper.specs.Places.{Types, only, Place, raw, usage, declared, destination, source, condition, predicate, relative, isRaw, isDestination}
+use Rattle.tokens.specs.Brief.{briefly, brief}
 use Rattle.tokens.specs.Plain.{plainSource, plainDestination}
 use Rattle.tokens.specs.Tabled.{isTabled, typesAt}
 
 -- "R any 32 bits"; of U nothing is told by itself
-pub raw-good : (v : Version) (place : Place) (token : ℕ) → isRaw place ≡ true → Good ≡ tokenAt v place token
-unfolding tokenAt
-raw-good v raw token r = refl
-raw-good v usage token r = refl
-raw-good v declared token r = never r
-raw-good v (destination types) token r = never r
-raw-good v (source types) token r = never r
-raw-good v condition token r = never r
-raw-good v predicate token r = never r
-raw-good v relative token r = never r
+pub raw-brief : (v : Version) (place : Place) (token : ℕ) → isRaw place ≡ true → 0 ≡ brief v place token
+raw-brief v raw token r = refl
+raw-brief v usage token r = refl
+raw-brief v declared token r = never r
+raw-brief v (destination types) token r = never r
+raw-brief v (source types) token r = never r
+raw-brief v condition token r = never r
+raw-brief v predicate token r = never r
+raw-brief v relative token r = never r
+
+-- what is told in brief, and what is told of the fault
+module _ (v : Version) (place : Place) (token : ℕ) where
+  both-brief : (isLaid isTyped : Bool) → eqb (briefly isLaid isTyped) 0 ≡ isLaid && isTyped
+  both-brief true true = refl
+  both-brief true false = refl
+  both-brief false isTyped = refl
+
+  pub brief-good : eqb (brief v place token) 0 ≡ isGood (tokenAt v place token)
+  brief-good = both-brief (laid v place token) (typed v place (typeOf token)) ∙ sym (token-good v place token)
+
+  pub brief-mislaid : brief v place token ≡ 1 → tokenAt v place token ≡ faultAt v place token
+  unfolding tokenAt
+  brief-mislaid e = by (laid v place token) (typed v place (typeOf token)) e
+    where
+      by : (isLaid isTyped : Bool) → briefly isLaid isTyped ≡ 1 → layoutThenType isLaid isTyped (faultAt v place token) ≡ faultAt v place token
+      by true true f = apart f
+      by true false f = absurd (omega arith)
+      by false isTyped f = refl
+
+  pub brief-type : (brief v place token ≡ 0 → ⊥) → (brief v place token ≡ 1 → ⊥) → toldToken (tokenAt v place token) ≡ brief v place token
+  unfolding tokenAt
+  brief-type some other = by (laid v place token) (typed v place (typeOf token)) some other
+    where
+      by : (isLaid isTyped : Bool) → (briefly isLaid isTyped ≡ 0 → ⊥) → (briefly isLaid isTyped ≡ 1 → ⊥) →
+          toldToken (layoutThenType isLaid isTyped (faultAt v place token)) ≡ briefly isLaid isTyped
+      by true true f g = absurd (f refl)
+      by true false f g = refl
+      by false isTyped f g = absurd (g refl)
 
 predicate-agree : Agrees predicateTypes
 unfolding holds

@@ -1,17 +1,20 @@
-// Operand tokens, judged at their places: document 01, "Operand tokens", with document 02's Q-3 and Q-4.
+// Operand tokens, judged at their places: document 01, "Operand tokens", with document 02's Q-4.
 ghost use mathlib.Core.Path.{_≡_};
 ghost use mathlib.Core.Bool.{true, false};
 ghost use mathlib.Core.List.{[], _∷_};
 ghost use Rattle.paper.specs.Notation.{pick, among};
 ghost use Rattle.versions.specs.Sets.{holds};
 ghost use Rattle.places.specs.Places.{onlyType, placeBy};
-ghost use Rattle.paper.specs.OperandTokens.{typeOf, isFree, laid, typed, byType, tokenAt, bringsRelative};
-ghost use Rattle.paper.specs.Numbers.{toldToken};
+ghost use Rattle.paper.specs.OperandTokens.{typeOf, isFree, laid, typed, bringsRelative};
 ghost use Rattle.paper.specs.Places.{freeDestination, freeSource, relative, isRaw, isDestination};
+ghost use Rattle.tokens.specs.Brief.{briefly, brief};
 ghost use Rattle.tokens.specs.Plain.{plainSource, plainDestination};
 ghost use Rattle.tokens.specs.Tabled.{isTabled, typesAt};
 ghost use Rattle.tokens.specs.Good.{goodWritten, goodRead};
 use paper::Version;
+
+// What is told of a token whose layout is wrong.
+pub const MISLAID: u32 = 1;
 
 // A set of register types: each raises its own bit.
 const PREDICATE_TYPES: u32 = 0x8_0000;
@@ -125,7 +128,7 @@ fn typed_at(version: Version, place: u64, token: u32) -> bool
 
 // What is told of a token whose layout is right.
 fn told_typed(typed: bool) -> u32
-    ensures { λ r. ⌜ r ≡ toldToken (byType typed) ⌝ }
+    ensures { λ r. ⌜ r ≡ briefly true typed ⌝ }
 {
     if typed {
         return 0;
@@ -134,7 +137,7 @@ fn told_typed(typed: bool) -> u32
 }
 
 fn told_by_type(set: u32, token: u32) -> u32
-    ensures { λ r. ⌜ r ≡ toldToken (byType (holds set (typeOf token))) ⌝ }
+    ensures { λ r. ⌜ r ≡ briefly true (holds set (typeOf token)) ⌝ }
 {
     if versions::type_in(set, token) {
         return 0;
@@ -197,7 +200,7 @@ pub fn good_read(version: Version, types: u32, token: u32) -> bool
 
 // What is told of a token at a free source: 0 if it is good.
 pub fn judge_source(version: Version, token: u32) -> u32
-    ensures { λ r. ⌜ r ≡ toldToken (tokenAt version freeSource token) ⌝ }
+    ensures { λ r. ⌜ r ≡ brief version freeSource token ⌝ }
 {
     if plain_source(token) {
         return told_by_type(versions::free_source_types(version), token);
@@ -205,11 +208,11 @@ pub fn judge_source(version: Version, token: u32) -> u32
     if layout::free_source_laid(version, token) {
         return told_by_type(versions::free_source_types(version), token);
     }
-    faults::fault_at(version, places::FREE_SOURCE, token)
+    MISLAID
 }
 
 pub fn judge_destination(version: Version, token: u32) -> u32
-    ensures { λ r. ⌜ r ≡ toldToken (tokenAt version freeDestination token) ⌝ }
+    ensures { λ r. ⌜ r ≡ brief version freeDestination token ⌝ }
 {
     if plain_destination(token) {
         return told_by_type(versions::free_destination_types(version), token);
@@ -217,16 +220,16 @@ pub fn judge_destination(version: Version, token: u32) -> u32
     if layout::free_destination_laid(version, token) {
         return told_by_type(versions::free_destination_types(version), token);
     }
-    faults::fault_at(version, places::FREE_DESTINATION, token)
+    MISLAID
 }
 
 pub fn judge_relative(version: Version, token: u32) -> u32
-    ensures { λ r. ⌜ r ≡ toldToken (tokenAt version relative token) ⌝ }
+    ensures { λ r. ⌜ r ≡ brief version relative token ⌝ }
 {
     if layout::relative_laid(version, token) {
         return told_typed(versions::relative_typed(version, token));
     }
-    faults::fault_at(version, places::RELATIVE, token)
+    MISLAID
 }
 
 // The layout at a place of the tables that has no name. A plain token is laid out right in every version.
@@ -246,17 +249,17 @@ fn tabled_laid(version: Version, place: u64, token: u32) -> bool
 // What is told of a token at such a place, of these types.
 fn judge_tabled(version: Version, place: u64, types: u32, token: u32) -> u32
     requires { ⌜ (isTabled place ≡ true) × (types ≡ typesAt place) ⌝ }
-    ensures { λ r. ⌜ r ≡ toldToken (tokenAt version (placeBy place) token) ⌝ }
+    ensures { λ r. ⌜ r ≡ brief version (placeBy place) token ⌝ }
 {
     if tabled_laid(version, place, token) {
         return told_by_type(types, token);
     }
-    faults::fault_at(version, place, token)
+    MISLAID
 }
 
 // What is told of a token at any place.
 pub fn judge_token(version: Version, place: u64, token: u32) -> u32
-    ensures { λ r. ⌜ r ≡ toldToken (tokenAt version (placeBy place) token) ⌝ }
+    ensures { λ r. ⌜ r ≡ brief version (placeBy place) token ⌝ }
 {
     if place == places::FREE_SOURCE {
         return judge_source(version, token);
@@ -274,7 +277,7 @@ pub fn judge_token(version: Version, place: u64, token: u32) -> u32
     if typed_laid(version, place, token) {
         return told_typed(typed_at(version, place, token));
     }
-    faults::fault_at(version, place, token)
+    MISLAID
 }
 
 // Whether a relative token follows a token that is good at its place: at free places alone.

@@ -11,7 +11,7 @@ use Rattle.paper.specs.declared.Class.the-variants.{One}
 use Rattle.paper.specs.declared.Single.the-variants.{Plain}
 use Rattle.paper.specs.declared.Judged.the-variants.{Good}
 use Rattle.told.specs.Numbered.{sizeIn, judgedNumber, judgedFrom}
-use Rattle.stretches.specs.Stretch.{toldAt, PlainTo, here, past}
+use Rattle.stretches.specs.Stretch.{toldAt, PlainTo, here, past, Stretched}
 use Rattle.stretches.specs.declared.Stretch.{Stretch}
 use Rattle.stretches.proofs.Stretches.{told-whole, plain-judged}
 use Rattle.walk.specs.declared.State.{State}
@@ -22,6 +22,11 @@ use Rattle.walk.proofs.OneToOne.{same-step}
 use Rattle.walk.proofs.Telling.{told-moves}
 use Rattle.walk.proofs.OnStream.{stands-plain, step-comes}
 use Rattle.walk.proofs.Comes.{comes-since}
+
+-- a stretch that is judged, stepped over
+pub passes-over : {v : Version} {tokens : List ℕ} (state : State) {at stop beyond : ℕ} (r : Stretch) (x : Step) → Stretched v tokens at stop beyond r →
+    toldStep x ≡ toldStep (onJudged (judgedFrom (r .told)) (passed state at r)) → Passes v tokens state at stop beyond (toldStep x)
+passes-over state r x s e = record { stretch = r; stretched = s; steps = e }
 
 -- a stretch leads on, and is one instruction where the next one may not begin before a stop
 pub leads-ahead : {v : Version} {tokens : List ℕ} {beyond stop start at n : ℕ} → PlainTo v tokens beyond stop start at n → start ≤ at

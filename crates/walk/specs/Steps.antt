@@ -45,15 +45,19 @@ behindOf state size class kinds =
       phased = state .phased || classPhase class;
     }
 
--- the state at the end of a stretch that begins at a place of the tokens shown
-abbrev pub passed : State → ℕ → Stretch → State
-passed state at stretch =
+-- the state behind so many tokens of plain instructions, of which there are so many
+abbrev pub advanced : State → ℕ → ℕ → State
+advanced state tokens instructions =
     record {
-      at = wrapped (state .at + (stretch .at - at));
-      count = wrapped (state .count + stretch .count);
+      at = wrapped (state .at + tokens);
+      count = wrapped (state .count + instructions);
       kinds = state .kinds;
       phased = state .phased;
     }
+
+-- the state at the end of a stretch that begins at a place of the tokens shown
+abbrev pub passed : State → ℕ → Stretch → State
+passed state at stretch = advanced state (stretch .at - at) (stretch .count)
 
 abbrev pub stepOf : Move → State → Step
 stepOf answer state = record { answer = answer; state = state }

@@ -5,7 +5,7 @@ ghost use Rattle.paper.specs.Blocks.{isPhase, classPhase};
 ghost use Rattle.paper.specs.Walk.{counts};
 ghost use Rattle.told.specs.Numbered.{judgedFrom};
 ghost use Rattle.walk.specs.Kinds.{inLoopBy, allowedBy, standsBy, opensBy, closesBy, nextBy};
-ghost use Rattle.walk.specs.Steps.{wrapped, begun, behindOf, stepOf, onNextBy, onJudged, goesOn, endOf, verdictOf, toldStep, Passes};
+ghost use Rattle.walk.specs.Steps.{wrapped, begun, behindOf, stepOf, onNextBy, onJudged, advanced, goesOn, endOf, verdictOf, toldStep, Passes};
 use paper::Class;
 use paper::Closer;
 use paper::Judged;
@@ -273,6 +273,19 @@ fn moved(state: State, told: u64) -> Step
     }
 }
 
+// Over so many tokens of plain instructions, of which there are so many, and over the instruction behind them of which this is told.
+pub fn step_over(state: State, tokens: usize, instructions: usize, told: u64) -> Step
+    ensures { λ r. ⌜ toldStep r ≡ toldStep (onJudged (judgedFrom told) (advanced state tokens instructions)) ⌝ }
+{
+    let last = State {
+        at: std::num::wrapping_add_usize(state.at, tokens),
+        count: std::num::wrapping_add_usize(state.count, instructions),
+        kinds: state.kinds,
+        phased: state.phased,
+    };
+    moved(last, told)
+}
+
 // Judges, moves and counts: from `state` on, which is at a place of these tokens, over plain instructions as long as the next one
 // begins before `stop`, and over the instruction at their end. Behind these tokens `beyond` more are there.
 pub fn pass(
@@ -286,13 +299,7 @@ pub fn pass(
     ensures { λ r. ⌜ Passes version (now (tokens .entry)) state at stop beyond (toldStep r) ⌝ }
 {
     let stretch = stretches::judge_stretch(version, tokens, at, stop, beyond);
-    let last = State {
-        at: std::num::wrapping_add_usize(state.at, stretch.at - at),
-        count: std::num::wrapping_add_usize(state.count, stretch.count),
-        kinds: state.kinds,
-        phased: state.phased,
-    };
-    moved(last, stretch.told)
+    step_over(state, stretch.at - at, stretch.count, stretch.told)
 }
 
 // Whether the walk goes on, and stands before this position.

@@ -5,6 +5,7 @@ use native.Mathlib.Omega.{arith}
 use borrow.Author.Needs.{needs}
 use Rattle.walk.specs.Steps.{goesOn}
 use Rattle.walk.specs.Stands.{Stands, Comes}
+use Rattle.walk.proofs.Stretching.{passes-over, leads-ahead}
 use Rattle.walk.proofs.Comes.{leftTo, comes-on, comes-not, comes-turn}
 use Rattle.byte_checker.specs.Bytes.{tokensIn}
 use Rattle.byte_checker.proofs.Turn.{view-comes}
@@ -34,20 +35,21 @@ stands t =
     comes-on (g .version) (tokensIn (g .bytes .now)) (l .loop .step) (g .view .start) (l .loop .inv) (g .view .until) (on t)
 
 -- and comes further
-turned : (c : tie.After-pass Inv-loop μ-loop) →
-    let l = c .before .before .before .before .before .before in
+turned : (c : tie.After-step-over Inv-loop μ-loop) →
+    let l = c .before .before .before .before .before .before .before .before in
     let g = start l .args in
-    (leftTo (c .pass .result) (g .view .until) < leftTo (l .loop .step) (g .view .until))
-    × Comes (g .version) (tokensIn (g .bytes .now)) (g .view .start) (c .pass .result)
+    (leftTo (c .step-over .result) (g .view .until) < leftTo (l .loop .step) (g .view .until))
+    × Comes (g .version) (tokensIn (g .bytes .now)) (g .view .start) (c .step-over .result)
 turned c =
-    let t = c .before .before .before .before in
+    let r = c .before .before .judge-stretch in
+    let t = c .before .before .before .before .before .before in
     let l = t .before .before in
     let s = start l in
     let g = s .args in
     let h = stands t in
-    comes-turn (g .version) (tokensIn (g .bytes .now)) (l .loop .step) (g .view .start) (l .loop .inv) (g .view .until) (on t) (c .pass .result) (l .loop .step .state .at + 1)
-    (view-comes (g .version) (g .bytes .now) (g .tokens) (s .pre .0) (omega arith) (g .view) (s .pre .2) (l .loop .step .state) (h .0) (h .1) (h .2) (c .pass .result)
-    (rw (s .pre .1) at (c .pass .ensures)))
+    comes-turn (g .version) (tokensIn (g .bytes .now)) (l .loop .step) (g .view .start) (l .loop .inv) (g .view .until) (on t) (c .step-over .result) (l .loop .step .state .at + 1)
+    (view-comes (g .version) (g .bytes .now) (g .tokens) (s .pre .0) (omega arith) (g .view) (s .pre .2) (l .loop .step .state) (h .0) (h .1) (h .2) (c .step-over .result)
+    (rw (s .pre .1) at (passes-over (l .loop .step .state) (r .result) (c .step-over .result) (r .ensures) (c .step-over .ensures))))
     (omega arith)
 
 returns : tie.Need-returns Inv-loop μ-loop
@@ -68,6 +70,8 @@ walk-view-spec =
     (λ c. let s = c .before .before .before .before in (s .pre .3, s .pre .4))
     (λ c κs. search needs)
     (λ c. omega (arith, stands (c .before .before .before) .1))
+    (λ c κs. search needs)
+    (λ c. omega (arith, leads-ahead (c .before .judge-stretch .ensures .leads)))
     (λ c κs. search needs)
     (λ c. turned c .0)
     (λ c. turned c .1)

@@ -5,7 +5,7 @@ use Rattle.operands.proofs.take_free.Statement.{statement}
 use Rattle.operands.proofs.take_free.Tie as tie
 
 refused-at-requires : tie.Need-refused-at-requires
-refused-at-requires c κs = omega arith
+refused-at-requires c κs = (c .before .before .pre .0, c .if1 .taken, omega arith)
 
 returns : tie.Need-returns
 returns c = simp (c .refused-at .ensures, ne-eqb _ _ (c .before .if1 .taken))

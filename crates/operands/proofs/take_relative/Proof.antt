@@ -2,6 +2,7 @@ use mathlib.Core.Path.{refl}
 use Prim.Native.Nat.{_+_}
 use native.Mathlib.Omega.{arith}
 use borrow.Author.Tests.{ne-eqb}
+use Rattle.places.proofs.Places.{relative-place}
 use Rattle.operands.proofs.OperandAt.{relative-none, relative-number}
 use borrow.Author.Needs.{needs}
 use Rattle.operands.proofs.take_relative.Statement.{statement}
@@ -18,12 +19,12 @@ returns-2 c =
     rw (relative-number (g .version) (g .at + 1) (g .at) _ (g .behind .now) (c .before .before .before .if1 .left) (c .before .judge-relative .ensures), c .if2 .taken) refl
 
 refused-at-requires : tie.Need-refused-at-requires
-refused-at-requires c κs = omega arith
+refused-at-requires c κs = (rw relative-place (c .before .judge-relative .ensures), c .if2 .left, omega arith)
 
 returns-3 : tie.Need-returns-3
 returns-3 c =
     let g = c .before .before .before .before .before .before .args in
-    rw (relative-number (g .version) (g .at + 1) (g .at) _ (g .behind .now) (c .before .before .before .before .if1 .left) (c .before .before .judge-relative .ensures), ne-eqb _ _ (c .before .if2 .left)) (c .refused-at .ensures)
+    rw (relative-number (g .version) (g .at + 1) (g .at) _ (g .behind .now) (c .before .before .before .before .if1 .left) (c .before .before .judge-relative .ensures), ne-eqb _ _ (c .before .if2 .left)) (rw relative-place at (c .refused-at .ensures))
 
 pub take-relative-spec : {M : Type 1} → statement M
 take-relative-spec =

@@ -1,25 +1,19 @@
 use mathlib.Core.Path.{sym, _∙_}
-use Rattle.paper.specs.OperandTokens.{tokenAt}
 use Rattle.paper.specs.Places.{free}
 use Rattle.tokens.proofs.TokenAt.{plain-source-laid}
-use Rattle.places.proofs.Places.{free-source-place}
 use Rattle.versions.proofs.Types.{source-types}
 use borrow.Author.Needs.{needs}
 use Rattle.tokens.proofs.judge_source.Statement.{statement}
 use Rattle.tokens.proofs.judge_source.Tie as tie
 
 returns : tie.Need-returns
-unfolding tokenAt
 returns c = rw (c .told-by-type .ensures, c .before .free-source-types .ensures, source-types _ _, plain-source-laid _ free _ (sym (c .before .before .before .plain-source .ensures) ∙ c .before .before .if1 .taken))
 
 returns-2 : tie.Need-returns-2
-unfolding tokenAt
 returns-2 c = rw (c .told-by-type2 .ensures, c .before .free-source-types2 .ensures, source-types _ _, sym (c .before .before .before .free-source-laid .ensures) ∙ c .before .before .if2 .taken)
 
 returns-3 : tie.Need-returns-3
-unfolding tokenAt
-returns-3 c =
-    rw (sym (c .before .before .free-source-laid .ensures) ∙ c .before .if2 .left) (rw free-source-place at (c .fault-at .ensures))
+returns-3 c = rw (sym (c .before .free-source-laid .ensures) ∙ c .if2 .left)
 
 pub judge-source-spec : {M : Type 1} → statement M
 judge-source-spec =
@@ -33,5 +27,4 @@ judge-source-spec =
     (λ c κs. search needs)
     (λ c κs. search needs)
     returns-2
-    (λ c κs. search needs)
     returns-3)

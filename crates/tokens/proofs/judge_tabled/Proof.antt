@@ -1,12 +1,10 @@
 use mathlib.Core.Path.{sym, _∙_}
-use Rattle.paper.specs.OperandTokens.{tokenAt}
 use Rattle.tokens.proofs.TokenAt.{types-tabled, of-its-types}
 use borrow.Author.Needs.{needs}
 use Rattle.tokens.proofs.judge_tabled.Statement.{statement}
 use Rattle.tokens.proofs.judge_tabled.Tie as tie
 
 returns : tie.Need-returns
-unfolding tokenAt
 returns c =
     let s = c .before .before .before in
     let g = s .args in
@@ -19,8 +17,7 @@ returns c =
     )
 
 returns-2 : tie.Need-returns-2
-unfolding tokenAt
-returns-2 c = rw (sym (c .before .before .tabled-laid .ensures) ∙ c .before .if1 .left) (c .fault-at .ensures)
+returns-2 c = rw (sym (c .before .tabled-laid .ensures) ∙ c .if1 .left)
 
 pub judge-tabled-spec : {M : Type 1} → statement M
-judge-tabled-spec = tie.close (tie.spec (λ c κs. search needs) (λ c κs. search needs) returns (λ c κs. search needs) returns-2)
+judge-tabled-spec = tie.close (tie.spec (λ c κs. search needs) (λ c κs. search needs) returns returns-2)

@@ -1,11 +1,9 @@
-use mathlib.Core.Path.{sym, _∙_, ap}
+use mathlib.Core.Path.{sym, _∙_}
 use borrow.Author.Needs.{needs}
-use Rattle.paper.specs.OperandTokens.{tokenAt}
-use Rattle.paper.specs.Numbers.{toldToken}
 use Rattle.places.specs.Places.{placeBy}
 use Rattle.places.proofs.Places.{free-source-place, free-destination-place}
 use Rattle.places.proofs.PlaceKinds.{not-free}
-use Rattle.tokens.proofs.TokenAt.{raw-good, tabled-by, untabled-by}
+use Rattle.tokens.proofs.TokenAt.{raw-brief, tabled-by, untabled-by}
 use Rattle.tokens.proofs.judge_token.Statement.{statement}
 use Rattle.tokens.proofs.judge_token.Tie as tie
 
@@ -25,7 +23,7 @@ returns-3 c = c .judge-tabled .ensures
 returns-4 : tie.Need-returns-4
 returns-4 c =
     let g = c .before .before .before .before .before .before .args in
-    ap toldToken (raw-good (g .version) (placeBy (g .place)) (g .token) (sym (c .before .is-raw .ensures) ∙ c .if4 .taken))
+    raw-brief (g .version) (placeBy (g .place)) (g .token) (sym (c .before .is-raw .ensures) ∙ c .if4 .taken)
 
 typed-laid-requires : tie.Need-typed-laid-requires
 typed-laid-requires c κs =
@@ -40,12 +38,10 @@ typed-at-requires c κs =
     (both .0, both .1, untabled-by (s .before .before .args .place) (sym (d .before .before .before .types-at .ensures) ∙ d .before .before .if3 .left))
 
 returns-5 : tie.Need-returns-5
-unfolding tokenAt
 returns-5 c = rw (c .told-typed .ensures, c .before .typed-at .ensures, sym (c .before .before .before .typed-laid .ensures) ∙ c .before .before .if5 .taken)
 
 returns-6 : tie.Need-returns-6
-unfolding tokenAt
-returns-6 c = rw (sym (c .before .before .typed-laid .ensures) ∙ c .before .if5 .left) (c .fault-at .ensures)
+returns-6 c = rw (sym (c .before .typed-laid .ensures) ∙ c .if5 .left)
 
 pub judge-token-spec : {M : Type 1} → statement M
 judge-token-spec =
@@ -64,5 +60,4 @@ judge-token-spec =
     typed-at-requires
     (λ c κs. search needs)
     returns-5
-    (λ c κs. search needs)
     returns-6)

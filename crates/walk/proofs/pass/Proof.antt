@@ -1,6 +1,4 @@
-use mathlib.Core.Path.{ap}
 use native.Mathlib.Omega.{arith}
-use Rattle.walk.specs.Steps.{toldStep}
 use Rattle.walk.proofs.Stretching.{leads-ahead}
 use borrow.Author.Needs.{needs}
 use Rattle.walk.proofs.pass.Statement.{statement}
@@ -8,9 +6,8 @@ use Rattle.walk.proofs.pass.Tie as tie
 
 returns : tie.Need-returns
 returns c =
-    let s = c .before .before .before .before in
-    let sums = rw (c .before .before .wrapping-add-usize .ensures, c .before .wrapping-add-usize2 .ensures) at (c .moved .ensures) in
-    record { stretch = s .judge-stretch .result; stretched = s .judge-stretch .ensures; steps = ap toldStep sums }
+    let s = c .before .before in
+    record { stretch = s .judge-stretch .result; stretched = s .judge-stretch .ensures; steps = c .step-over .ensures }
 
 pub pass-spec : {M : Type 1} → statement M
 pass-spec =
@@ -18,7 +15,5 @@ pass-spec =
     (tie.spec
     (λ c κs. search needs)
     (λ c. omega (arith, leads-ahead (c .before .judge-stretch .ensures .leads)))
-    (λ c κs. search needs)
-    (λ c κs. search needs)
     (λ c κs. search needs)
     returns)
