@@ -51,23 +51,23 @@ enum ItemEnd {
 fn refused_item(reason: Reason, position: usize, detail: usize) -> ItemEnd
     ensures { λ r. ⌜ r ≡ ItemEnd.Refused (refusalAtBit reason position detail) ⌝ }
 {
-    let refusal = Refusal {
+    let refused = Refusal {
         reason,
         position,
         detail,
     };
-    ItemEnd::Refused(refusal)
+    ItemEnd::Refused(refused)
 }
 
 fn refused(reason: Reason, position: usize) -> Verdict
     ensures { λ r. ⌜ r ≡ Verdict.Refused (refusal reason position) ⌝ }
 {
-    let refusal = Refusal {
+    let refused = Refusal {
         reason,
         position,
         detail: 0,
     };
-    Verdict::Refused(refusal)
+    Verdict::Refused(refused)
 }
 
 fn may_stand(single: Single, depth: usize, in_loop: bool, phased: bool) -> bool

@@ -87,13 +87,19 @@ pub fn judge_declaration(version: Version, behind: &[u32]) -> u64
     let usage = behind[0];
     let destination = behind[1];
     if !destination_laid(version, destination) {
-        return told::refused(faults::declared_fault(version, destination), 2);
+        return told::refused(
+            faults::declaration_fault(version, destination, usage, false),
+            2,
+        );
     }
     if !is_declared(version, destination) {
         return told::refused(paper::REGISTER, 2);
     }
     if !usage_laid(version, destination, usage) {
-        return told::refused(faults::usage_fault(version, destination, usage), 1);
+        return told::refused(
+            faults::declaration_fault(version, destination, usage, true),
+            1,
+        );
     }
     if behind.len() == 2 {
         return told::FIT;

@@ -5,7 +5,7 @@ ghost use mathlib.Core.Bool.{_||_, _&&_, true, false};
 ghost use mathlib.Core.List.{[]};
 ghost use lib.Dec.{eqb, leb};
 ghost use Prim.Native.Nat.{_≤_};
-ghost use Rattle.paper.specs.Notation.{bit, bits};
+ghost use Rattle.paper.specs.Notation.{bit, bits, pick};
 ghost use Rattle.paper.specs.Numbers.{toldToken};
 ghost use Rattle.paper.specs.Faults.{span, unless, offends, lowest, faultBy};
 ghost use Rattle.paper.specs.OperandTokens.{typeOf, modifierOf, negated, writtenZeros, faultAt};
@@ -205,7 +205,7 @@ fn declared_fields(version: Version, token: u32) -> u32
 }
 
 // What is wrong with a DCL's destination: 0 if nothing is.
-pub fn declared_fault(version: Version, token: u32) -> u32
+fn declared_fault(version: Version, token: u32) -> u32
     ensures { λ r. ⌜ r ≡ toldToken (declaredFault version token) ⌝ }
 {
     let zeros = declared_zeros(version, token);
@@ -234,7 +234,7 @@ fn usage_field(usage: u32) -> u32
 }
 
 // What is wrong with U, whose form goes with the destination's type: 0 if nothing is.
-pub fn usage_fault(version: Version, destination: u32, usage: u32) -> u32
+fn usage_fault(version: Version, destination: u32, usage: u32) -> u32
     ensures { λ r. ⌜ r ≡ toldToken (usageFault version (typeOf destination) usage) ⌝ }
 {
     let form = versions::form_of(version, destination);
@@ -245,4 +245,14 @@ pub fn usage_fault(version: Version, destination: u32, usage: u32) -> u32
         return fault_by(PLAIN, 0, usage, true, true);
     }
     fault_by(USAGE, usage_field(usage), usage, true, true)
+}
+
+// What is wrong with a token of a DCL, U or the destination. One function for both: with two callers it stays out of the judge's own code.
+pub fn declaration_fault(version: Version, destination: u32, usage: u32, in_usage: bool) -> u32
+    ensures { λ r. ⌜ r ≡ toldToken (pick «in_usage» (usageFault version (typeOf destination) usage) (declaredFault version destination)) ⌝ }
+{
+    if in_usage {
+        return usage_fault(version, destination, usage);
+    }
+    declared_fault(version, destination)
 }

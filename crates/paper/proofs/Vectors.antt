@@ -14,6 +14,7 @@ use Rattle.paper.specs.Dcl.{declaredFault, usageFault, declaration}
 use Rattle.paper.specs.Instruction.{tokenHead, operand, operands, judged}
 use Rattle.paper.specs.Blocks.{Cut, out, then, classes, classOf}
 use Rattle.paper.specs.Walk.{begin, walk}
+use Rattle.paper.specs.Stream.{cutting, cutFrom, walked, verdict, checked}
 use Rattle.paper.specs.declared.Version.{Version}
 use Rattle.paper.specs.declared.Version.the-variants.{V2, V3, P2, P3, V1, P11, P12, P13, P14}
 use Rattle.paper.specs.declared.Single.the-variants.{Plain, Phase}
@@ -362,6 +363,13 @@ allTell (row ∷ more) = tells (toldInstruction (judged (row .version) (row .tok
 vectors-hold : allTell vectors ≡ true
 unfolding vectors judged tokenHead operand operands declaration tokenAt faultAt declaredFault usageFault lowest lowestFrom typedPlaces entryOf rows firstRows classOf classes toldInstruction
 vectors-hold = refl
+
+-- nop; mov with a reserved bit: in its stream the position of a refusal is moved, and its bit stays
+moved-on :
+    checked (0xFFFE0200 ∷ 0x00000000 ∷ 0x02000001 ∷ 0x800F4000 ∷ 0xA0E40000 ∷ 0x0000FFFF ∷ []) ≡
+    record { number = 16; position = 3; detail = 14; instructions = 0 }
+unfolding verdict walked cutFrom cutting walk judged tokenHead operand operands tokenAt faultAt lowest lowestFrom typedPlaces entryOf rows classOf classes
+moved-on = refl
 
 -- a cut of instructions of one token each, from a position on
 cutOf : List Class → ℕ → Cut

@@ -17,7 +17,7 @@ returns-2 : tie.Need-returns-2
 returns-2 c =
     let d = c .before .before .before in
     c .refused2 .ensures
-    ∙ rw (c .before .declared-fault .ensures)
+    ∙ rw (c .before .declaration-fault .ensures)
     (sym (destination-fault _ _ (d .before .before .before .if1 .left) (sym (d .destination-laid .ensures) ∙ not-true _ (c .before .before .if2 .taken))))
 
 returns-3 : tie.Need-returns-3
@@ -33,7 +33,7 @@ returns-4 c =
     let t = c .before .before .before .before .before in
     let d = t .before .before in
     c .refused4 .ensures
-    ∙ rw (c .before .usage-fault .ensures)
+    ∙ rw (c .before .declaration-fault2 .ensures)
     (sym
     (usage-refused _ _ (d .before .before .before .if1 .left) (sym (d .destination-laid .ensures) ∙ not-false _ (t .before .if2 .left))
     (sym (t .is-declared .ensures) ∙ not-false _ (c .before .before .before .before .if3 .left))
