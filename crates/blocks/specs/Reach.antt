@@ -7,7 +7,6 @@ use Rattle.paper.specs.Blocks.{Cut, out, wrong, then}
 use Rattle.paper.specs.Walk.{WalkState, step, Next, go, bad, finish}
 use Rattle.paper.specs.declared.Class.{Class}
 use Rattle.paper.specs.declared.Reason.the-variants.{Tail as TAIL}
-use Rattle.paper.specs.declared.Refusal.{Refusal}
 use Rattle.paper.specs.declared.Verdict.{Verdict}
 use Rattle.paper.specs.declared.Verdict.the-variants.{Accepted, Refused}
 

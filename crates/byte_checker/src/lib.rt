@@ -18,7 +18,7 @@ use walk::State;
 use walk::Step;
 
 // So many tokens are read at once.
-const WINDOW: usize = 128;
+const WINDOW: usize = 192;
 
 fn wide(byte: u8) -> u32
     ensures { λ r. ⌜ (r ≡ byte) × (r < 256) ⌝ }
@@ -93,7 +93,7 @@ struct View {
 // The part from `at` on: a window of tokens, or all that are left. What a comment claims is skipped, and need not be in it.
 fn view_from(at: usize, tokens: usize) -> View
     requires { ⌜ at < tokens ⌝ }
-    ensures { λ r. ⌜ (r .start ≡ at) × (at < r .until) × (r .held ≤ 128) × Within tokens r ⌝ }
+    ensures { λ r. ⌜ (r .start ≡ at) × (at < r .until) × (r .held ≤ 192) × Within tokens r ⌝ }
 {
     let left = tokens - at;
     if left <= WINDOW {

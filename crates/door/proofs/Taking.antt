@@ -11,7 +11,7 @@ use lib.Seq.{drop-cons}
 use borrow.Author.Tests.{eq-eqb, ne-eqb, eqb-true, eqb-false}
 use Rattle.paper.specs.Notation.{bits, bit, pick}
 use Rattle.paper.specs.Versions.{isPixel, hasSizes}
-use Rattle.paper.specs.OperandTokens.{relativeSources, relativeDestinations, markedSources, hasShiftScale, isFree, bothLaid, sourceModifier, modifierOf, laid, typed, typeOf, tokenAt, bringsRelative, leftOver}
+use Rattle.paper.specs.OperandTokens.{relativeSources, relativeDestinations, markedSources, hasShiftScale, isFree, bothLaid, sourceModifier, modifierOf, laid, typeOf, tokenAt, bringsRelative, leftOver}
 use Rattle.paper.specs.Places.{Types, free, only, Place, freeDestination, destination, source, relative}
 use Rattle.paper.specs.Instruction.{onToken, relativeToken, operand, onTaken, operands}
 use Rattle.paper.specs.declared.Version.{Version}

@@ -14,7 +14,6 @@ use Rattle.paper.specs.Blocks.{Cut, out, wrong, then}
 use Rattle.paper.specs.Walk.{WalkState, Next, go, bad, finish, step, atEnd, onNext}
 use Rattle.paper.specs.Stream.{cutOne, cutting, cutFrom, walked, verdict}
 use Rattle.paper.specs.declared.Version.{Version}
-use Rattle.paper.specs.declared.Reason.{Reason}
 use Rattle.paper.specs.declared.Reason.the-variants.{RunOut as RUN-OUT, Tail as TAIL}
 use Rattle.paper.specs.declared.Refusal.{Refusal}
 use Rattle.paper.specs.declared.Judged.{Judged}

@@ -1,19 +1,18 @@
 -- The faults of a token by sets of bits, and by the numbers of places.
-use Prim.Native.Nat.{ℕ, zero, suc, _+_, _-_, _/_, _%_, _^_, _<_, _≤_}
-use mathlib.Core.Path.{_≡_, refl, sym, ap, _∙_}
+use Prim.Native.Nat.{ℕ, zero, suc, _+_, _-_, _<_}
+use mathlib.Core.Path.{_≡_, refl, sym, ap}
 use mathlib.Core.Bool.{Bool, true, false, not, _&&_, _||_}
 use mathlib.Core.List.{List, [], _∷_, _++_}
 use native.Mathlib.Numerals.{add-one}
 use native.Mathlib.Omega.{arith}
 use lib.Dec.{eqb, leb}
 use borrow.Author.Tests.{eqb-true}
-use Rattle.paper.specs.Notation.{bit, bits, pick, among}
+use Rattle.paper.specs.Notation.{bit, bits, pick}
 use Rattle.paper.specs.Faults.{span, unless, offends, lowestFrom, lowest, faultBy}
-use Rattle.paper.specs.Places.{Place, raw, usage, declared, destination, source, condition, predicate, relative, isRaw, isDestination}
+use Rattle.paper.specs.Places.{Place, isRaw, isDestination}
 use Rattle.paper.specs.OperandTokens.{numberField, typeOf, modifierOf, relativeDestinations, markedSources, sourceModifier, writtenZeros, faultAt}
 use Rattle.paper.specs.Dcl.{declaresFace, isMiscellaneous, isFace, declaredZeros, declaredFields, usageFault}
 use Rattle.paper.specs.declared.Version.{Version}
-use Rattle.paper.specs.declared.Token.{Token}
 use Rattle.paper.proofs.Below.{below}
 use Rattle.paper.proofs.Bools.{never, both-left, both-right}
 use Rattle.paper.proofs.VersionTokens.{each}

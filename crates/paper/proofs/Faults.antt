@@ -12,9 +12,9 @@ use borrow.Author.Tests.{eq-eqb, ne-eqb, eqb-true, eqb-false, ltb-true, lt-ltb, 
 use Rattle.paper.specs.Notation.{bit, bits, pick, among}
 use Rattle.paper.specs.Versions.{isPixel}
 use Rattle.paper.specs.Faults.{bitsFrom, span, unless, offends, lowestFrom, lowest, faultBy}
-use Rattle.paper.specs.Places.{Place, raw, usage, declared, destination, source, condition, predicate, relative, isRaw, isDestination}
+use Rattle.paper.specs.Places.{Place, raw, usage, declared, destination, source, condition, predicate, relative, isRaw}
 use Rattle.paper.specs.OperandTokens.{bothLaid, typeOf, modifierOf, numberField, hasShiftScale, relativeLaid, modifierLaid, sourceLaid, destinationLaid, laid, typed, writtenZeros, zerosAt, faultAt, layoutThenType, tokenAt}
-use Rattle.paper.specs.Dcl.{samplerForm, plainForm, usageForm, samplerTypes, plainTypes, isDeclared, declaresFace, isMiscellaneous, positionOrFace, faceLaid, isFace, declaredZeros, declaredFields, declaredFault, declaredAt, formBy, usageLaid, formZeros, formFields, usageFault, usageAt}
+use Rattle.paper.specs.Dcl.{samplerForm, plainForm, usageForm, samplerTypes, plainTypes, isDeclared, isMiscellaneous, faceLaid, isFace, declaredZeros, declaredFields, declaredFault, declaredAt, usageLaid, formZeros, formFields, usageFault, usageAt}
 use Rattle.paper.specs.declared.Version.{Version}
 use Rattle.paper.specs.declared.Reason.{Reason}
 use Rattle.paper.specs.declared.Reason.the-variants.{Register as REGISTER, Reserved as RESERVED, Modifier as MODIFIER, Relative as RELATIVE}

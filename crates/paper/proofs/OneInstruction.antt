@@ -2,7 +2,7 @@
 -- can have, where it can have it, holds of its refusal.
 use Prim.Native.Nat.{ℕ, suc, _+_, _-_, _≤_, _<_}
 use mathlib.Core.Path.{_≡_, refl}
-use mathlib.Core.Bool.{Bool, true, false, _&&_}
+use mathlib.Core.Bool.{Bool, true, false}
 use mathlib.Core.List.{List, [], _∷_}
 use native.Mathlib.Omega.{arith}
 use lib.Dec.{eqb, leb}
@@ -19,7 +19,7 @@ use Rattle.paper.specs.Blocks.{classOf}
 use Rattle.paper.specs.Instruction.{claimed, Head, tokenHead, onToken, relativeToken, operand, onTaken, operands, operandsOf, onOperands, claim, onClaimed, judged}
 use Rattle.paper.specs.declared.Version.{Version}
 use Rattle.paper.specs.declared.Reason.{Reason}
-use Rattle.paper.specs.declared.Reason.the-variants.{Opcode as OPCODE, Bits as BITS, RunOut as RUN-OUT, Size as SIZE, Register as REGISTER, Reserved as RESERVED, Modifier as MODIFIER, Relative as RELATIVE}
+use Rattle.paper.specs.declared.Reason.the-variants.{Opcode as OPCODE, Bits as BITS, RunOut as RUN-OUT, Size as SIZE}
 use Rattle.paper.specs.declared.Refusal.{Refusal}
 use Rattle.paper.specs.declared.Token.{Token}
 use Rattle.paper.specs.declared.Token.the-variants.{Good as good, Bad as bad}

@@ -17,7 +17,7 @@ use Rattle.byte_checker.proofs.walk_bytes.Statement.{statement}
 use Rattle.byte_checker.proofs.walk_bytes.Tie as tie
 
 abbrev Inv-loop : tie.InvT-loop
-Inv-loop version bytes tokens window₀ step₀ window step = (length window ≡ 128) × Comes version (tokensIn bytes) 0 step
+Inv-loop version bytes tokens window₀ step₀ window step = (length window ≡ 192) × Comes version (tokensIn bytes) 0 step
 
 abbrev μ-loop : tie.MeasureT-loop
 μ-loop version bytes tokens window₀ step₀ window step = leftTo step tokens

@@ -1,9 +1,5 @@
-use mathlib.Core.Path.{_≡_, sym, ap, _∙_}
-use mathlib.Core.Bool.{true, false, _&&_}
+use mathlib.Core.Path.{sym, ap, _∙_}
 use borrow.Author.Tests.{not-true, not-false}
-use Rattle.paper.specs.Places.{declared}
-use Rattle.paper.specs.OperandTokens.{typeOf, laid}
-use Rattle.paper.specs.Dcl.{isDeclared, faceLaid, usageLaid}
 use Rattle.told.specs.Numbered.{operandsNumber}
 use Rattle.dcl.proofs.Declarations.{no-destination, destination-fault, destination-type, usage-refused, then-rest}
 use borrow.Author.Needs.{needs}

@@ -1,5 +1,4 @@
 use borrow.Author.Tests.{eq-eqb, ne-eqb}
-use borrow.Author.Needs.{needs}
 use Rattle.operands.proofs.take_typed.Statement.{statement}
 use Rattle.operands.proofs.take_typed.Tie as tie
 
