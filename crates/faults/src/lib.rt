@@ -18,6 +18,13 @@ use paper::Version;
 // A bit stands above the number of its fault.
 const NUMBERS: u32 = 32;
 
+// The bits that tell of bit 31, of a modifier and of relative addressing.
+const LAST_BIT: u32 = 31;
+
+const MODIFIER_BIT: u32 = 24;
+
+const RELATIVE_BIT: u32 = 13;
+
 // The bits that every operand token has zero, 15:14.
 const COMMON: u32 = 0xC000;
 
@@ -53,7 +60,7 @@ fn lowest_offending(zeros: u32, fields: u32, token: u32) -> u32
     ensures few { λ r. ⌜ r ≤ 31 ⌝ }
 {
     let mut bit = 0;
-    while bit < 31 {
+    while bit < LAST_BIT {
         if (((zeros >> bit) % 2 == 1) & ((token >> bit) % 2 == 1)) | ((fields >> bit) % 2 == 1) {
             return bit;
         }
@@ -67,19 +74,19 @@ fn fault_by(zeros: u32, fields: u32, token: u32, relative_laid: bool, modifier_l
     ensures { λ r. ⌜ r ≡ toldToken (faultBy token (offendsIn zeros fields token) «relative_laid» «modifier_laid») ⌝ }
 {
     if token / 0x8000_0000 % 2 == 0 {
-        return paper::RESERVED + NUMBERS * 31;
+        return paper::RESERVED + NUMBERS * LAST_BIT;
     }
     let lowest = lowest_offending(zeros, fields, token);
-    if lowest < 31 {
+    if lowest < LAST_BIT {
         return paper::RESERVED + NUMBERS * lowest;
     }
     if relative_laid {
         if modifier_laid {
             return 0;
         }
-        return paper::MODIFIER + NUMBERS * 24;
+        return paper::MODIFIER + NUMBERS * MODIFIER_BIT;
     }
-    paper::RELATIVE + NUMBERS * 13
+    paper::RELATIVE + NUMBERS * RELATIVE_BIT
 }
 
 // The bits of a destination that must be zero.

@@ -152,7 +152,7 @@ typed v condition type = among type (conditionTypes v)
 typed v predicate type = among type predicateTypes
 typed v relative type = among type (relativeTypes v)
 
--- Document 02, Q-3, the bits that "must be zero": of a destination 15:14, 23, in vertex versions 22:21, and 27:24 where there is no shift scale;
+-- Document 02, Q-3, each "must-be-zero bit": of a destination 15:14, 23, in vertex versions 22:21, and 27:24 where there is no shift scale;
 -- of any other token 15:14. Bit 13 is told as RELATIVE, and bits 27:24 of a source as MODIFIER.
 abbrev pub writtenZeros : Version → List ℕ
 writtenZeros v = span 15 14 ++ (pick (isPixel v) [] (span 22 21) ++ (span 23 23 ++ pick (hasShiftScale v) [] (span 27 24)))
