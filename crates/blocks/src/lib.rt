@@ -1,1 +1,2 @@
 // The theorems about blocks: the walk with open blocks is the grammar.
+#![tactic(auto)]

@@ -1,4 +1,6 @@
 // The check of a byte range: document 01, "What the build does".
+#![tactic(auto)]
+
 ghost use Rattle.std.specs.Prelude.{◌≡◌, ◌+◌, ◌*◌, ◌/◌, ◌<◌, ◌≤◌, length, take, drop};
 ghost use Rattle.std.proofs.lemmas.List.Edits.{sets};
 ghost use Rattle.paper.specs.Numbers.{told, refusal};
@@ -77,7 +79,7 @@ fn refused(reason: Reason, position: usize) -> Verdict
 
 // A part of a stream, as a window holds it: so many tokens from a position on. The instructions that begin before `until` have all
 // their tokens in it, or the stream's last.
-#[derive(Drop)]
+#[derive(Clone, Copy)]
 struct View {
     start: usize,
     held: usize,

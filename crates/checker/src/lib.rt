@@ -1,4 +1,6 @@
 // The check of a stream, by descent: document 01, "Blocks". A body calls item, an item calls block, a block calls body.
+#![tactic(auto)]
+
 ghost use Rattle.std.specs.Prelude.{◌≡◌, false, ◌+◌, ◌≤◌, length};
 ghost use Rattle.paper.specs.Numbers.{refusal, refusal_at_bit, told};
 ghost use Rattle.paper.specs.Blocks.{may_stand, loops_in, closer_of};
@@ -24,7 +26,7 @@ const END_REP: u32 = 3;
 const END: u32 = 4;
 
 // A body stops at a closer: its position, the position behind it, and the count of the instructions before it. Or it is refused.
-#[derive(Drop)]
+#[derive(Clone, Copy)]
 enum BodyEnd {
     Stopped(Closer, usize, usize, usize),
     Broken(Refusal),
@@ -32,7 +34,7 @@ enum BodyEnd {
 
 // An item is passed, with the position behind it and the count up to there; there is no item but a closer, and the position behind
 // that; or it is refused.
-#[derive(Drop)]
+#[derive(Clone, Copy)]
 enum ItemEnd {
     Passed(usize, usize),
     Closer(Closer, usize),

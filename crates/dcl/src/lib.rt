@@ -1,4 +1,6 @@
 // The operands of DCL: document 01, "DCL", with document 02's Q-3 and Q-6.
+#![tactic(auto)]
+
 ghost use Rattle.std.specs.Prelude.{◌≡◌, ◌&&◌};
 ghost use Rattle.paper.specs.OperandTokens.{type_of, laid};
 ghost use Rattle.paper.specs.Places.{declared};

@@ -1,5 +1,7 @@
 // The door: a lawful instruction of the common kind is passed by a few tests against the row of its opcode. Whatever is not passed goes to the judge,
 // which alone refuses.
+#![tactic(auto)]
+
 mod quick;
 
 ghost use Rattle.std.specs.Prelude.{◌≡◌, ℕ, ◌+◌, ◌-◌, ◌<◌, ◌≤◌, ◌∷◌, length, drop};
@@ -104,7 +106,7 @@ fn has_coissue(version: Version) -> bool
 
 // What is asked of the tokens behind a first one: how many operands they are, how many tokens they claim, and the types of the destination and of the
 // sources, as sets. No operands: nothing that the door passes.
-#[derive(Drop)]
+#[derive(Clone, Copy)]
 struct Wanted {
     count: u32,
     claim: u32,

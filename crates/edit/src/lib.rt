@@ -1,8 +1,10 @@
 // The edit: document 01, "The edit".
+#![tactic(auto)]
+
 use paper::Refusal;
 
 // An edit, answered: both yeses give the new length.
-#[derive(Drop)]
+#[derive(Clone, Copy)]
 pub enum Edited {
     Joined(usize),
     Accepted(usize),

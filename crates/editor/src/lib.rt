@@ -1,5 +1,7 @@
 // The edit: document 01, "The edit". The old stream is walked once, up to j, and the splice from i on; the buffer is changed
 // only after a yes.
+#![tactic(auto)]
+
 ghost use Rattle.std.specs.Prelude.{◌≡◌, ◌+◌, ◌-◌, ◌<◌, ◌≤◌, length, take, drop, get_or};
 ghost use Rattle.paper.specs.Numbers.{refusal};
 ghost use Rattle.paper.specs.Stream.{most_tokens};
@@ -15,7 +17,7 @@ use paper::{Named, Reason, Refusal, Verdict, Version};
 use walk::{Move, State, Step};
 
 // Whether a walk comes to a position, and how it stands there.
-#[derive(Drop)]
+#[derive(Clone, Copy)]
 struct Found {
     there: bool,
     state: State,

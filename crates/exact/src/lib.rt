@@ -1,4 +1,6 @@
 // Exact rows: the one first token that an opcode has where no operand is relative, no predicate is there and the controls are zero.
+#![tactic(auto)]
+
 mod rows;
 
 ghost use Rattle.std.specs.Prelude.{◌≡◌, eqb};

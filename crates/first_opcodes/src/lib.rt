@@ -1,4 +1,6 @@
 // The opcodes of the versions without sizes, looked up: document 02, Q-4. One arm for each opcode: only so does a table become one in memory.
+#![tactic(auto)]
+
 mod rows;
 
 ghost use Rattle.std.specs.Prelude.{◌≡◌};

@@ -1,4 +1,6 @@
 // One instruction, judged on its own tokens: document 01, "The numbers given back", the order within one instruction.
+#![tactic(auto)]
+
 ghost use Rattle.std.specs.Prelude.{◌≡◌, ◌+◌, ◌<◌, leb, length};
 ghost use Rattle.paper.specs.InstructionToken.{opcode_of};
 ghost use Rattle.paper.specs.Blocks.{class_of};

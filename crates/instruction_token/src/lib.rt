@@ -1,4 +1,6 @@
 // An instruction's first token, by itself: document 01, "Instruction token".
+#![tactic(auto)]
+
 ghost use Rattle.std.specs.Prelude.{◌≡◌};
 ghost use Rattle.paper.specs.InstructionToken.{opcode_of, comment_laid, comment_length};
 ghost use Rattle.instruction_token.specs.ByShape.{has_zeros, controls_by, sized_by, unsized_by, claim_if, places_by};

@@ -1,4 +1,6 @@
 // The layout of operand tokens: document 01, "Operand tokens", with document 02's Q-4.
+#![tactic(auto)]
+
 ghost use Rattle.std.specs.Prelude.{◌≡◌, ◌&&◌, ◌||◌, eqb};
 ghost use Rattle.paper.specs.Notation.{bits, bit};
 ghost use Rattle.paper.specs.Versions.{is_pixel};

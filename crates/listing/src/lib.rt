@@ -1,1 +1,2 @@
 // The theorems about the records of a cutting.
+#![tactic(auto)]

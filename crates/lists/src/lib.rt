@@ -1,1 +1,2 @@
 // Laws over lists: what a loop leaves that stores one element after the other.
+#![tactic(auto)]

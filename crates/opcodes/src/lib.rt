@@ -1,4 +1,6 @@
 // The opcodes of every version, looked up: document 01's table, and behind it that of the versions without sizes.
+#![tactic(auto)]
+
 mod rows;
 
 ghost use Rattle.std.specs.Prelude.{◌≡◌, true};

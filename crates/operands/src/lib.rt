@@ -1,4 +1,6 @@
 // The operands of one instruction, from left to right: document 01, "The numbers given back", the order within one instruction.
+#![tactic(auto)]
+
 ghost use Rattle.std.specs.Prelude.{◌≡◌, ◌+◌, ◌≤◌, ◌<◌, eqb, length, drop};
 ghost use Rattle.paper.specs.Notation.{bit, pick};
 ghost use Rattle.paper.specs.Instruction.{relative_token, operand, operands};

@@ -1,4 +1,6 @@
 // The words of document 01 that code and definitions share. The definitions themselves stand in specs/, a file to a section.
+#![tactic(auto)]
+
 ghost use Rattle.std.specs.Prelude.{◌≡◌};
 ghost use Rattle.paper.specs.Numbers.{number_of};
 
@@ -17,7 +19,7 @@ pub const COMMENT: u32 = 0xFFFE;
 pub const END: u32 = 0xFFFF;
 
 // "The base knows four versions"; document 02, Q-4, adds vs_1_1 and ps_1_1 to ps_1_4.
-#[derive(Drop)]
+#[derive(Clone, Copy)]
 pub enum Version {
     V2,
     V3,
@@ -31,14 +33,14 @@ pub enum Version {
 }
 
 // What a first token, or a version that is passed, stands for.
-#[derive(Drop)]
+#[derive(Clone, Copy)]
 pub enum Named {
     Known(Version),
     Unknown,
 }
 
 // "The numbers given back", by name, and those of document 02.
-#[derive(Drop)]
+#[derive(Clone, Copy)]
 pub enum Reason {
     Length,
     Version,
@@ -93,7 +95,7 @@ pub fn number_of(reason: Reason) -> u32
 }
 
 // A refusal: why, the position of a token, and what the number says besides, of an operand's layout the lowest offending bit; else 0.
-#[derive(Drop)]
+#[derive(Clone, Copy)]
 pub struct Refusal {
     pub reason: Reason,
     pub position: usize,
@@ -101,7 +103,7 @@ pub struct Refusal {
 }
 
 // "an item is one instruction or a block": what an instruction is to the blocks around it.
-#[derive(Drop)]
+#[derive(Clone, Copy)]
 pub enum Single {
     Comment,
     Plain,
@@ -111,14 +113,14 @@ pub enum Single {
     Phase,
 }
 
-#[derive(Drop)]
+#[derive(Clone, Copy)]
 pub enum Opener {
     If,
     Loop,
     Rep,
 }
 
-#[derive(Drop)]
+#[derive(Clone, Copy)]
 pub enum Closer {
     Else,
     EndIf,
@@ -127,7 +129,7 @@ pub enum Closer {
     End,
 }
 
-#[derive(Drop)]
+#[derive(Clone, Copy)]
 pub enum Class {
     One(Single),
     Opens(Opener),
@@ -135,21 +137,21 @@ pub enum Class {
 }
 
 // One token, judged at its place: good, or why not, and the bit.
-#[derive(Drop)]
+#[derive(Clone, Copy)]
 pub enum Token {
     Good,
     Bad(Reason, usize),
 }
 
 // One operand, judged: how many tokens it takes.
-#[derive(Drop)]
+#[derive(Clone, Copy)]
 pub enum Taken {
     Took(usize),
     Refused(Refusal),
 }
 
 // The operands of an instruction, judged: they take its tokens, no fewer and no more.
-#[derive(Drop)]
+#[derive(Clone, Copy)]
 pub enum Operands {
     Fit,
     Refused(Refusal),
@@ -157,14 +159,14 @@ pub enum Operands {
 
 // One instruction, judged: how many tokens it takes behind its first one, and its class.
 // A refusal's position counts from the instruction.
-#[derive(Drop)]
+#[derive(Clone, Copy)]
 pub enum Judged {
     Good(usize, Class),
     Refused(Refusal),
 }
 
 // A whole stream, judged: the number of its instructions.
-#[derive(Drop)]
+#[derive(Clone, Copy)]
 pub enum Verdict {
     Accepted(usize),
     Refused(Refusal),

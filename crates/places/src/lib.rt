@@ -1,4 +1,6 @@
 // The places of operands, by their numbers.
+#![tactic(auto)]
+
 ghost use Rattle.std.specs.Prelude.{◌≡◌};
 ghost use Rattle.paper.specs.Places.{is_raw as isRawPlace, is_destination as isDestinationPlace, is_predicate as isPredicatePlace};
 ghost use Rattle.paper.specs.OperandTokens.{is_free as isFreePlace};

@@ -1,4 +1,6 @@
 // The reader: document 01, "Records". One instruction at a place of a stream, judged and read into its record.
+#![tactic(auto)]
+
 ghost use Rattle.std.specs.Prelude.{◌≡◌};
 ghost use Rattle.paper.specs.Numbers.{refusal_at_bit};
 ghost use Rattle.reader.specs.Reading.{unread_by, reading_at, reading, told_reading};
@@ -7,14 +9,14 @@ use paper::{Named, Reason, Refusal, Version};
 use records::Record;
 
 // The next place, or why there is no instruction.
-#[derive(Drop)]
+#[derive(Clone, Copy)]
 pub enum Answer {
     Got(usize),
     Refused(Refusal),
 }
 
 // What a reading gives. The record of a refusal is all zero.
-#[derive(Drop)]
+#[derive(Clone, Copy)]
 pub struct Reading {
     pub answer: Answer,
     pub instruction: Record,

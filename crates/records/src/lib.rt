@@ -1,4 +1,6 @@
 // Records: document 01, "Records". The record of one instruction, read from its tokens.
+#![tactic(auto)]
+
 ghost use Rattle.std.specs.Prelude.{◌≡◌, ◌+◌, ◌≤◌, length, drop};
 ghost use Rattle.paper.specs.Notation.{pick};
 ghost use Rattle.paper.specs.InstructionToken.{is_predicated, with_predicate};
@@ -16,7 +18,7 @@ pub const PREDICATE_SLOT: usize = 5;
 
 // An operand: the fields of its token and of its relative token, or the 32 bits of a raw one.
 #[repr(C)]
-#[derive(Drop)]
+#[derive(Clone, Copy)]
 pub struct Operand {
     pub number: u32,
     pub kind: u32,
@@ -34,7 +36,7 @@ pub struct Operand {
 
 // One instruction. Five operands stand in token order; the predicate's is always the sixth.
 #[repr(C)]
-#[derive(Drop)]
+#[derive(Clone, Copy)]
 pub struct Record {
     pub opcode: u32,
     pub controls: u32,
@@ -136,7 +138,7 @@ fn no_operand() -> Operand
 }
 
 // An operand, and the place of the token behind it.
-#[derive(Drop)]
+#[derive(Clone, Copy)]
 struct Step {
     operand: Operand,
     next: usize,

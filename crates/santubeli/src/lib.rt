@@ -1,4 +1,6 @@
 // The entries for C. Each is a thin hand over a proved function; include/santubeli.h has the words for a C user.
+#![tactic(auto)]
+
 ghost use Rattle.std.specs.Prelude.{◌≡◌, ◌/◌, length};
 ghost use Rattle.paper.specs.Stream.{verdict};
 ghost use Rattle.byte_checker.specs.Bytes.{bytes_verdict};
@@ -15,7 +17,7 @@ use records::Record;
 use writer::Written;
 
 #[repr(C)]
-#[derive(Drop)]
+#[derive(Clone, Copy)]
 pub struct Answer {
     pub number: u32,
     pub position: usize,
@@ -65,7 +67,7 @@ pub extern "C" fn santubeli_check_tokens(tokens: &[u32]) -> Answer
 }
 
 #[repr(C)]
-#[derive(Drop)]
+#[derive(Clone, Copy)]
 pub struct ReadAnswer {
     pub number: u32,
     pub position: usize,
@@ -103,7 +105,7 @@ pub extern "C" fn santubeli_read(version: u32, tokens: &[u32], at: usize) -> Rea
 }
 
 #[repr(C)]
-#[derive(Drop)]
+#[derive(Clone, Copy)]
 pub struct NoteAnswer {
     pub number: u32,
     pub position: usize,
@@ -151,7 +153,7 @@ pub extern "C" fn santubeli_note(version: u32, tokens: &[u32], at: usize) -> Not
 }
 
 #[repr(C)]
-#[derive(Drop)]
+#[derive(Clone, Copy)]
 pub struct EditAnswer {
     pub number: u32,
     pub position: usize,
@@ -207,7 +209,7 @@ pub extern "C" fn santubeli_edit(
 }
 
 #[repr(C)]
-#[derive(Drop)]
+#[derive(Clone, Copy)]
 pub struct WriteAnswer {
     pub number: u32,
     pub position: usize,

@@ -3,7 +3,7 @@ use paper::{Named, Version};
 use reader::Answer;
 
 // The instruction's position; the number of the operand, from 1 on and the predicate not counted, which has 0; and the place.
-#[derive(Drop)]
+#[derive(Clone, Copy)]
 pub struct Fault {
     pub instruction: usize,
     pub operand: usize,

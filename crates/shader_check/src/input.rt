@@ -7,7 +7,7 @@ use libc::{EAGAIN, EINTR, STDIN_FILENO};
 const MOST_TRIES: u64 = 1_000_000_000;
 
 // The bytes of the input at the front of a buffer. They are whole where the input has ended or the buffer is full; otherwise a read has failed, and errno says why.
-#[derive(Drop)]
+#[derive(Clone, Copy)]
 pub struct Input {
     pub held: usize,
     pub is_whole: bool,

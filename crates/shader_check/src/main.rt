@@ -3,6 +3,8 @@
 // `note 3 at 5 comments 3`; behind a refusal with a bit a line that says which operand it is of, as
 // `token 2148483072 operand 1 place 63 instruction 1 version 4294836736`, of a DCL's usage token with ` destination 2416902144` at its end.
 // Where the input cannot be read there is no verdict: a line on standard error says why.
+#![tactic(auto)]
+
 mod fault;
 mod input;
 

@@ -1,4 +1,6 @@
 // The shape of an opcode in a version: what the tables say of it, as one number, and its fields.
+#![tactic(auto)]
+
 ghost use Rattle.std.specs.Prelude.{◌≡◌};
 ghost use Rattle.shapes.specs.Shape.{places_field, predicable_in, rule_in, coissue_in, unstated_in, class_in};
 

@@ -1,4 +1,6 @@
 // A run put into a buffer in place of some of its tokens: document 01, "The edit".
+#![tactic(auto)]
+
 ghost use Rattle.std.specs.Prelude.{◌≡◌, ◌+◌, ◌-◌, ◌<◌, ◌≤◌, length, take, drop};
 ghost use Rattle.std.proofs.lemmas.List.Edits.{sets};
 ghost use Rattle.splicer.specs.Splicing.{with_run, spliced_in};

@@ -1,4 +1,6 @@
 // Instructions one after another: a stretch of plain ones, and the instruction at its end.
+#![tactic(auto)]
+
 ghost use Rattle.std.specs.Prelude.{◌≡◌};
 ghost use Rattle.stretches.specs.Stretch.{told_at, Stretched};
 
@@ -6,7 +8,7 @@ use paper::{Reason, Version};
 
 // Where a stretch of plain instructions ends: the position of the instruction at its end, how many plain ones are before it, and
 // what is told of it.
-#[derive(Drop)]
+#[derive(Clone, Copy)]
 pub struct Stretch {
     pub at: usize,
     pub count: usize,

@@ -1,4 +1,6 @@
 // Operand tokens, judged at their places: document 01, "Operand tokens", with document 02's Q-4.
+#![tactic(auto)]
+
 ghost use Rattle.std.specs.Prelude.{◌≡◌, true, false, [], ◌∷◌};
 ghost use Rattle.paper.specs.Notation.{pick, among};
 ghost use Rattle.versions.specs.Sets.{holds};

@@ -1,4 +1,6 @@
 // What is told of an instruction and of its operands, one number, made and read back: a yes is even, a refusal odd. No other crate knows what its bits are.
+#![tactic(auto)]
+
 ghost use Rattle.std.specs.Prelude.{◌≡◌, ◌%◌, ◌^◌};
 ghost use Rattle.paper.specs.Numbers.{number_of, reason_by, refusal, told_instruction};
 ghost use Rattle.told.specs.Numbered.{yes_number, fault_number, refusal_number, is_refusal, taken_in, size_in, kind_in, is_plain, tells_phase, number_in, bit_in, position_in, class_by, judged_from};

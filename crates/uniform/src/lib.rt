@@ -1,4 +1,6 @@
 // Uniform rows: the opcodes whose operands are a destination and sources that are all of one kind, which most are.
+#![tactic(auto)]
+
 mod cells;
 
 ghost use Rattle.std.specs.Prelude.{◌≡◌};
@@ -9,7 +11,7 @@ use paper::Version;
 
 // How many operands there are, and the register types that the destination and the sources may have, as sets: each raises its own bit. A row has
 // operands: 0 says that there is none.
-#[derive(Drop)]
+#[derive(Clone, Copy)]
 pub struct Row {
     pub count: u32,
     pub written: u32,

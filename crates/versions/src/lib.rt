@@ -1,4 +1,6 @@
 // Versions, and what each has: document 01, "What the build does", and what its other sections and document 02's Q-4 say of versions.
+#![tactic(auto)]
+
 ghost use Rattle.std.specs.Prelude.{◌≡◌, ◌<◌};
 ghost use Rattle.paper.specs.Notation.{among};
 ghost use Rattle.paper.specs.Versions.{has, named, is_pixel, has_sizes, has_predicates};

@@ -1,4 +1,6 @@
 // The walk of a stream, a stretch of plain instructions and one more at a time: document 01, "The numbers given back" and "Blocks".
+#![tactic(auto)]
+
 ghost use Rattle.std.specs.Prelude.{◌≡◌};
 ghost use Rattle.paper.specs.Numbers.{refusal, refusal_at_bit, told};
 ghost use Rattle.paper.specs.Blocks.{is_phase, class_phase};
@@ -30,7 +32,7 @@ const PAST_ELSE: u64 = 4;
 const DEEPEST: u64 = 11_920_928_955_078_125;
 
 // What an instruction does to the open blocks: the walk goes on with these, is refused, or is at its end.
-#[derive(Drop)]
+#[derive(Clone, Copy)]
 pub enum Next {
     Go(u64),
     Bad(Reason),
@@ -146,7 +148,7 @@ fn marks(class: Class) -> bool
 
 // Where a walk stands: the position of the next instruction, the number of instructions before it, comments not counted, the open blocks,
 // and whether a PHASE has stood.
-#[derive(Drop)]
+#[derive(Clone, Copy)]
 pub struct State {
     pub at: usize,
     pub count: usize,
@@ -155,7 +157,7 @@ pub struct State {
 }
 
 // What a step of the walk answers: it goes on, is behind an END that finishes the stream, or is refused.
-#[derive(Drop)]
+#[derive(Clone, Copy)]
 pub enum Move {
     On,
     Done,
@@ -163,7 +165,7 @@ pub enum Move {
 }
 
 // A step of the walk: its answer, and the state behind the instruction; of a refusal, the state before it.
-#[derive(Drop)]
+#[derive(Clone, Copy)]
 pub struct Step {
     pub answer: Move,
     pub state: State,

@@ -1,4 +1,6 @@
 // The writer: document 01, "Records". One record, written into the part of a token buffer that starts at a given place.
+#![tactic(auto)]
+
 ghost use Rattle.std.specs.Prelude.{◌≡◌, true, [], ◌∷◌, ◌++◌, ◌+◌, ◌*◌, ◌^◌, ◌≤◌, ◌<◌, eqb, leb, length, get_or};
 ghost use Rattle.std.proofs.lemmas.List.Edits.{sets};
 ghost use Rattle.paper.specs.Notation.{pick};
@@ -27,7 +29,7 @@ const MOST_ENCODED: usize = 1 + 2 * records::OPERANDS;
 const MARK: u32 = 0x1000_0000;
 
 // The next place, or why nothing was written.
-#[derive(Drop)]
+#[derive(Clone, Copy)]
 pub enum Written {
     Wrote(usize),
     Refused(Reason),

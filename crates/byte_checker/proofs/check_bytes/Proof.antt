@@ -20,8 +20,8 @@ returns-5 c =
     let named-is = verdict_named c.before.before.before.before.before.before.before.before.before.args.bytes.now (omega arith) (omega arith) (omega arith) in
     ap told (c.refused4.ensures ∙ sym (named-is ∙ rw (← c.before.before.before.before.token-at.ensures, ← (same_named _ _ c.before.before.before.version_of.ensures), c.before.enum_told.given.1)))
 
-pub check-bytes-spec : {M : Type 1} → statement M
-check-bytes-spec =
+pub check_bytes_spec : {M : Type 1} → statement M
+check_bytes_spec =
     tie.close
     (tie.spec
     (λ c κs. search rules)

@@ -19,5 +19,5 @@ returns c =
     let few = fitting_few (length g.bytes.now / 4) (length g.room.now) in
     (n, (rw n at c.before.before.fill.ensures, omega (arith, n, few.0, c.before.before.fill.auto.0)))
 
-pub decode-spec : {M : Type 1} → statement M
-decode-spec = tie.close (tie.spec (λ c κs. search rules) fill-requires (λ c. search rules) returns)
+pub decode_spec : {M : Type 1} → statement M
+decode_spec = tie.close (tie.spec (λ c κs. search rules) fill-requires (λ c. search rules) returns)

@@ -15,8 +15,8 @@ returns-2 c =
     let far = c.if1.false in
     (refl, omega arith, omega arith, record { inside = omega arith; begins = omega arith; enough = inr (omega arith) })
 
-pub view-from-spec : {M : Type 1} → statement M
-view-from-spec =
+pub view_from_spec : {M : Type 1} → statement M
+view_from_spec =
     tie.close
     (tie.spec
     (λ c. search rules)

@@ -101,8 +101,8 @@ returns c =
     let verdict = comes_verdict g.version (tokens_in g.bytes.now) l.loop.step 0 l.loop.invariant.1 (rw long over) in
     same_verdict c.verdict-of.result (verdict_of l.loop.step g.tokens) c.verdict-of.ensures ∙ rw long at verdict
 
-pub walk-bytes-spec : {M : Type 1} → statement M
-walk-bytes-spec =
+pub walk_bytes_spec : {M : Type 1} → statement M
+walk_bytes_spec =
     tie.close
     (tie.spec
     invariant-loop

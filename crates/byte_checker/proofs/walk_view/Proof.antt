@@ -58,8 +58,8 @@ returns c =
     let g = (start l).args in
     comes_not g.version (tokens_in g.bytes.now) l.loop.step g.view.start l.loop.invariant g.view.until (sym c.before.goes_on.ensures ∙ c.if1.false)
 
-pub walk-view-spec : {M : Type 1} → statement M
-walk-view-spec =
+pub walk_view_spec : {M : Type 1} → statement M
+walk_view_spec =
     tie.close
     (tie.spec
     invariant-loop

@@ -67,8 +67,8 @@ body-Inv-loop version tokens at count depth in-loop place₀ counted₀ marked�
 abbrev body-μ-loop : body-lts.decreases-loop
 body-μ-loop version tokens at count depth in-loop place₀ counted₀ marked₀ place counted marked = length tokens - place
 
-pub +block-body-item-spec : {M : Type 1} → statement M
-+block-body-item-spec = close μ-block μ-body μ-item (λ t. block-lts.spec (
+pub +block_body_item_spec : {M : Type 1} → statement M
++block_body_item_spec = close μ-block μ-body μ-item (λ t. block-lts.spec (
   own-closer-reads.Asked,
   own-closer-reads.Learnt,
   loops-in-reads.Asked,

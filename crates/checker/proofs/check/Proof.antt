@@ -36,8 +36,8 @@ returns-2 c =
 returns-3 : tie.Need-returns-3
 returns-3 c = ap told (c.refused2.ensures ∙ sym (verdict_length c.before.before.before.args.tokens.now c.before.if1.false))
 
-pub check-spec : {M : Type 1} → statement M
-check-spec =
+pub check_spec : {M : Type 1} → statement M
+check_spec =
     tie.close
     (tie.spec
     shared-slice-read-version-of

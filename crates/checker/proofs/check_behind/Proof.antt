@@ -12,7 +12,7 @@ returns c =
 returns-2 : tie.Need-returns-2
 returns-2 c = stream_broken c.before.before.before.body.ensures c.before.whole2.given.1
 
-pub check-behind-spec : {M : Type 1} → statement M
-check-behind-spec =
+pub check_behind_spec : {M : Type 1} → statement M
+check_behind_spec =
     tie.close
     (tie.spec (λ c κs. search rules) (λ c. search rules) (λ c κs. search rules) (λ c. search rules) returns returns-2)

@@ -16,8 +16,8 @@ returns-6 c =
     let g = c.before.before.args in
     rw c.enum-told6.given.1 (ap (λ (b : Bool). b && not g.phased) (zero_test g.depth))
 
-pub may-stand-spec : {M : Type 1} → statement M
-may-stand-spec =
+pub may_stand_spec : {M : Type 1} → statement M
+may_stand_spec =
     tie.close
     (tie.spec
     (λ c. search rules)

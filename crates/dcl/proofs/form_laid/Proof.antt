@@ -21,8 +21,8 @@ returns-3 c =
     let s = c.before.before in
     rw (form_laid_lem _ _ _, ← s.before.form_of.ensures, ne_eqb _ _ s.if1.false, ne_eqb _ _ c.before.if2.false) c.usage-form.ensures
 
-pub form-laid-spec : {M : Type 1} → statement M
-form-laid-spec =
+pub form_laid_spec : {M : Type 1} → statement M
+form_laid_spec =
     tie.close
     (tie.spec
     (λ c κs. search rules)

@@ -7,5 +7,5 @@ use Rattle.dcl.proofs.is_declared.Tie as tie
 returns : tie.Need-returns
 returns c = rw c.form_of.ensures (form_declared c.before.args.version (type_of c.before.args.destination))
 
-pub is-declared-spec : {M : Type 1} → statement M
-is-declared-spec = tie.close (tie.spec (λ c κs. search rules) returns)
+pub is_declared_spec : {M : Type 1} → statement M
+is_declared_spec = tie.close (tie.spec (λ c κs. search rules) returns)

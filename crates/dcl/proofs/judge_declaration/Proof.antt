@@ -56,8 +56,8 @@ returns-6 c =
     ((then_rest _ _ d.before.before.before.if1.false (sym d.destination-laid.ensures ∙ not-false _ t.before.if2.false) (sym t.is_declared.ensures ∙ not-false _ u.before.if3.false)
     (sym u.usage-laid.ensures ∙ not-false _ c.before.before.if4.false)).1 c.before.if5.false))
 
-pub judge-declaration-spec : {M : Type 1} → statement M
-judge-declaration-spec =
+pub judge_declaration_spec : {M : Type 1} → statement M
+judge_declaration_spec =
     tie.close
     (tie.spec
     (λ c κs. search rules)

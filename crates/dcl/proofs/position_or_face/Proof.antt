@@ -5,5 +5,5 @@ use Rattle.dcl.proofs.position_or_face.Tie as tie
 returns : tie.Need-returns
 returns c = rw (div-one c.args.destination)
 
-pub position-or-face-spec : {M : Type 1} → statement M
-position-or-face-spec = tie.close (tie.spec returns)
+pub position_or_face_spec : {M : Type 1} → statement M
+position_or_face_spec = tie.close (tie.spec returns)

@@ -5,5 +5,5 @@ use Rattle.dcl.proofs.sampler_form.Tie as tie
 returns : tie.Need-returns
 returns c = rw (div-one c.args.usage)
 
-pub sampler-form-spec : {M : Type 1} → statement M
-sampler-form-spec = tie.close (tie.spec returns)
+pub sampler_form_spec : {M : Type 1} → statement M
+sampler_form_spec = tie.close (tie.spec returns)

@@ -5,5 +5,5 @@ use Rattle.dcl.proofs.usage_form.Tie as tie
 returns : tie.Need-returns
 returns c = rw (div-one c.args.usage)
 
-pub usage-form-spec : {M : Type 1} → statement M
-usage-form-spec = tie.close (tie.spec returns)
+pub usage_form_spec : {M : Type 1} → statement M
+usage_form_spec = tie.close (tie.spec returns)

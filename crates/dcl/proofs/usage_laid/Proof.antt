@@ -5,5 +5,5 @@ use Rattle.dcl.proofs.usage_laid.Tie as tie
 returns : tie.Need-returns
 returns c = rw c.form_laid_lem.ensures
 
-pub usage-laid-spec : {M : Type 1} → statement M
-usage-laid-spec = tie.close (tie.spec (λ c κs. search rules) returns)
+pub usage_laid_spec : {M : Type 1} → statement M
+usage_laid_spec = tie.close (tie.spec (λ c κs. search rules) returns)

@@ -39,8 +39,8 @@ returns-4 c =
     (rw (sym b.has-sizes.ensures ∙ c.before.before.before.if1.false)
     (sym (ap (λ coissued. unsized_by coissued g.first) c.before.before.has-coissue.ensures) ∙ sym c.before.unsized-laid.ensures ∙ c.if3.false))
 
-pub asked-by-spec : {M : Type 1} → statement M
-asked-by-spec =
+pub asked_by_spec : {M : Type 1} → statement M
+asked_by_spec =
     tie.close
     (tie.spec
     (λ c κs. search rules)

@@ -124,8 +124,8 @@ returns-5 c d s md ms =
     ∙ ap (λ n. is_fit (operands g.version (sources n s) (1 + l.at) (drop l.at g.behind.now))) (sym last)
     ∙ before.1
 
-pub fits-spec : {M : Type 1} → statement M
-fits-spec =
+pub fits_spec : {M : Type 1} → statement M
+fits_spec =
     tie.close
     (tie.spec
     invariant-loop

@@ -88,8 +88,8 @@ returns-6 c = (
       (read_good g.version g.types token read m ∙ sym c.before.good_read_lem.ensures ∙ c.if3.false)),
 )
 
-pub take-read-spec : {M : Type 1} → statement M
-take-read-spec =
+pub take_read_spec : {M : Type 1} → statement M
+take_read_spec =
     tie.close
     (tie.spec
     (λ c. search rules)

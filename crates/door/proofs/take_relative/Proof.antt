@@ -30,8 +30,8 @@ returns-3 c = (
       sym (relative_refused g.version offset g.at _ g.behind.now c.before.before.before.if1.false c.before.judge-relative.ensures c.if2.false),
 )
 
-pub take-relative-spec : {M : Type 1} → statement M
-take-relative-spec =
+pub take_relative_spec : {M : Type 1} → statement M
+take_relative_spec =
     tie.close
     (tie.spec
     returns

@@ -45,8 +45,8 @@ returns-3 c = (
       (written_good g.version g.types token written m ∙ sym c.before.good-written.ensures ∙ c.if1.false)),
 )
 
-pub take-written-spec : {M : Type 1} → statement M
-take-written-spec =
+pub take_written_spec : {M : Type 1} → statement M
+take_written_spec =
     tie.close
     (tie.spec
     (λ c. search rules)

@@ -17,5 +17,5 @@ returns-2 c =
     let passed = c.before.pass.ensures in
     passed ∙ door_law g.version g.first g.behind.now (length g.behind.now + g.beyond) (λ none. c.if2.true (passed ∙ none))
 
-pub tell-spec : {M : Type 1} → statement M
-tell-spec = tie.close (tie.spec (λ c κs. search rules) returns (λ c κs. search rules) returns-2 (λ c κs. search rules) (λ c. search rules))
+pub tell_spec : {M : Type 1} → statement M
+tell_spec = tie.close (tie.spec (λ c κs. search rules) returns (λ c κs. search rules) returns-2 (λ c κs. search rules) (λ c. search rules))

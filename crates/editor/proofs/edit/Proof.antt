@@ -30,8 +30,8 @@ returns-3 c =
     held g.buffer.now g.n g.i g.j g.run.now (omega arith) ∙ sym c.before.before.before.before.before.edit-stream.ensures in
     (ap told_edit (sym is), c.before.before.splice-in.ensures ∙ after_yes g.buffer.now g.n g.i g.j g.run.now c.before.before.before.before.before.edit-stream.result c.before.before.before.before.match.keys2 is)
 
-pub edit-spec : {M : Type 1} → statement M
-edit-spec =
+pub edit_spec : {M : Type 1} → statement M
+edit_spec =
     tie.close
     (tie.spec
     (λ c κs. search rules)

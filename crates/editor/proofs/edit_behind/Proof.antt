@@ -28,8 +28,8 @@ returns-2 c =
     c.refused.ensures
     ∙ sym (no_second g.version g.old.now g.room g.first.at g.j g.run.now (rw c.before.if1.false at w.walk-to.ensures))
 
-pub edit-behind-spec : {M : Type 1} → statement M
-edit-behind-spec =
+pub edit_behind_spec : {M : Type 1} → statement M
+edit_behind_spec =
     tie.close
     (tie.spec
     (λ c κs. search rules)

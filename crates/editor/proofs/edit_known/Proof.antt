@@ -41,8 +41,8 @@ returns-5 c =
     c.refused4.ensures
     ∙ sym (no_first g.version g.old.now g.room g.i g.j g.run.now (rw c.before.if4.false at w.walk-to.ensures))
 
-pub edit-known-spec : {M : Type 1} → statement M
-edit-known-spec =
+pub edit_known_spec : {M : Type 1} → statement M
+edit_known_spec =
     tie.close
     (tie.spec
     (λ c κs. search rules)

@@ -32,8 +32,8 @@ returns-3 c =
     let i = b.inside in
     c.walk-spliced.ensures ∙ sym (has_room_lem g.version g.old.now g.room g.first.at g.last.at g.run.now (omega arith) (omega arith))
 
-pub edit-placed-spec : {M : Type 1} → statement M
-edit-placed-spec =
+pub edit_placed_spec : {M : Type 1} → statement M
+edit_placed_spec =
     tie.close
     (tie.spec
     (λ c. search rules)

@@ -28,8 +28,8 @@ returns-4 c =
     c.refused3.ensures
     ∙ sym (by_version g.room g.old.now g.i g.j g.run.now (omega arith) (omega arith) ∙ rw (← (same_named _ _ c.before.before.before.version_of.ensures), c.before.enum_told.given.1))
 
-pub edit-stream-spec : {M : Type 1} → statement M
-edit-stream-spec =
+pub edit_stream_spec : {M : Type 1} → statement M
+edit_stream_spec =
     tie.close
     (tie.spec
     (λ c κs. search rules)

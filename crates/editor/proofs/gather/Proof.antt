@@ -36,8 +36,8 @@ returns c =
     let long = part_length tokens g.from g.n (omega (arith, behind_length g.run.now g.old.now g.j)) in
     front_stored g.window.now source l.window g.n (omega arith) (sym long) (all_behind g.window.now source 0 l.window l.k (omega arith) l.invariant.2)
 
-pub gather-spec : {M : Type 1} → statement M
-gather-spec =
+pub gather_spec : {M : Type 1} → statement M
+gather_spec =
     tie.close
     (tie.spec
     invariant-loop

@@ -32,8 +32,8 @@ returns-3 c =
     ∙ step_gathered g.run.now g.old.now g.j g.i (omega arith) g.version g.state (omega arith) _ k.Shown-of.result _ (omega arith) refl k.Shown-of.ensures
     c.before.before.before.before.gather.ensures
 
-pub step-spliced-spec : {M : Type 1} → statement M
-step-spliced-spec =
+pub step_spliced_spec : {M : Type 1} → statement M
+step_spliced_spec =
     tie.close
     (tie.spec
     (λ c. search rules)

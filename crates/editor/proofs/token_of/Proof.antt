@@ -16,8 +16,8 @@ returns-2 c =
     let all : length g.run.now + (g.at - length g.run.now) ≡ g.at = omega arith in
     sym (rw all at (behind_in_old g.run.now g.old.now g.j (g.at - length g.run.now)))
 
-pub token-of-spec : {M : Type 1} → statement M
-token-of-spec =
+pub token_of_spec : {M : Type 1} → statement M
+token_of_spec =
     tie.close
     (tie.spec
     (λ c. search rules)

@@ -124,8 +124,8 @@ returns-2 c =
     ∙ ap (λ (x : Verdict). on_verdict x (whole l)) verdict
     ∙ turn_last g.version g.old.now g.first g.last g.run.now s.pre.0 l.loop.step l.loop.invariant.1 l.loop.invariant.2 (sym c.before.before.before.goes_on.ensures ∙ c.before.before.if1.false)
 
-pub walk-spliced-spec : {M : Type 1} → statement M
-walk-spliced-spec =
+pub walk_spliced_spec : {M : Type 1} → statement M
+walk_spliced_spec =
     tie.close
     (tie.spec
     invariant-loop

@@ -73,8 +73,8 @@ returns c =
     found_is g.version g.tokens.now g.target l.loop.step l.loop.invariant.0 (sym c.before.before.before.goes_on.ensures ∙ c.before.before.if1.false) l.loop.invariant.1
     c.before.goes-on2.result (sym c.before.goes-on2.ensures)
 
-pub walk-to-spec : {M : Type 1} → statement M
-walk-to-spec =
+pub walk_to_spec : {M : Type 1} → statement M
+walk_to_spec =
     tie.close
     (tie.spec
     invariant-loop

@@ -14,5 +14,5 @@ shr-result c = omega (arith, rank_few c.before.args.version, c.rank-of.ensures)
 returns : tie.Need-returns
 returns c = rw c.rank-of.ensures refl
 
-pub lists-spec : {M : Type 1} → statement M
-lists-spec = tie.close (tie.spec (λ c κs. search rules) add-result (λ c. search rules) shr-result returns)
+pub lists_spec : {M : Type 1} → statement M
+lists_spec = tie.close (tie.spec (λ c κs. search rules) add-result (λ c. search rules) shr-result returns)

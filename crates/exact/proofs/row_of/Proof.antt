@@ -10,9 +10,9 @@ use Rattle.exact.proofs.Exactly.{no_row_lem}
 use Rattle.exact.proofs.row_of.Statement.{statement}
 use Rattle.exact.proofs.row_of.Tie as tie
 
-pub row-of-spec : {M : Type 1} → statement M
+pub row_of_spec : {M : Type 1} → statement M
 unfolding rows entry_of typed_places class_of classes row_of exact_row decoded
-row-of-spec =
+row_of_spec =
     tie.close
     (tie.spec
     (λ c. ap exact_row (sym c.match.keys1))

@@ -8,5 +8,5 @@ returns c = rw c.before.if1.true c.usage-fault.ensures
 returns-2 : tie.Need-returns-2
 returns-2 c = rw c.before.if1.false c.declared-fault.ensures
 
-pub declaration-fault-spec : {M : Type 1} → statement M
-declaration-fault-spec = tie.close (tie.spec (λ c κs. search rules) returns (λ c κs. search rules) returns-2)
+pub declaration_fault_spec : {M : Type 1} → statement M
+declaration_fault_spec = tie.close (tie.spec (λ c κs. search rules) returns (λ c κs. search rules) returns-2)

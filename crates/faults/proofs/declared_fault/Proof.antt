@@ -19,5 +19,5 @@ returns c =
     (ap told_token
     (fault_sets (declared_zeros g.version g.token) (declared_fields g.version g.token) g.token (eqb (bit 13 g.token) 0) true (declared_agrees g.version g.token) (fields_agree g.version g.token)))
 
-pub declared-fault-spec : {M : Type 1} → statement M
-declared-fault-spec = tie.close (tie.spec (λ c κs. search rules) (λ c κs. search rules) (λ c κs. search rules) returns)
+pub declared_fault_spec : {M : Type 1} → statement M
+declared_fault_spec = tie.close (tie.spec (λ c κs. search rules) (λ c κs. search rules) (λ c κs. search rules) returns)

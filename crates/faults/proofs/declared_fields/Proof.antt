@@ -41,5 +41,5 @@ returns-5 c =
     let g = c.before.before.before.before.args in
     sym (no_fields g.version g.token (sym c.before.is-miscellaneous.ensures ∙ c.if3.false))
 
-pub declared-fields-spec : {M : Type 1} → statement M
-declared-fields-spec = tie.close (tie.spec (λ c κs. search rules) returns returns-2 (λ c κs. search rules) returns-3 returns-4 returns-5)
+pub declared_fields_spec : {M : Type 1} → statement M
+declared_fields_spec = tie.close (tie.spec (λ c κs. search rules) returns returns-2 (λ c κs. search rules) returns-3 returns-4 returns-5)

@@ -14,5 +14,5 @@ returns-2 c =
     let g = c.before.before.before.args in
     c.written_zeros_lem.ensures ∙ sym (no_face_zeros g.version g.token (sym c.before.before.is-face.ensures ∙ c.before.if1.false))
 
-pub declared-zeros-spec : {M : Type 1} → statement M
-declared-zeros-spec = tie.close (tie.spec (λ c κs. search rules) returns (λ c κs. search rules) returns-2)
+pub declared_zeros_spec : {M : Type 1} → statement M
+declared_zeros_spec = tie.close (tie.spec (λ c κs. search rules) returns (λ c κs. search rules) returns-2)

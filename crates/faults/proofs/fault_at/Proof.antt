@@ -40,8 +40,8 @@ returns-6 c =
     (sym e.is-destination.ensures ∙ m.before.before.before.if2.false) m.before.before.if3.false m.before.if4.false c.before.before.if5.false)
     (rw (c.before.marked-sources.ensures, m.source_modifier_lem.ensures) at c.read-fault4.ensures)
 
-pub fault-at-spec : {M : Type 1} → statement M
-fault-at-spec =
+pub fault_at_spec : {M : Type 1} → statement M
+fault_at_spec =
     tie.close
     (tie.spec
     (λ c κs. search rules)

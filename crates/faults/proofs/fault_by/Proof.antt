@@ -24,8 +24,8 @@ returns-5 c =
     let l = c.before in
     rw (ne_eqb _ _ l.before.before.if1.false, ← l.before.lowest-offending.ensures.0, le-ltb _ _ l.if2.false, c.if3.false)
 
-pub fault-by-spec : {M : Type 1} → statement M
-fault-by-spec =
+pub fault_by_spec : {M : Type 1} → statement M
+fault_by_spec =
     tie.close
     (tie.spec
     (λ c. search rules)

@@ -6,5 +6,5 @@ use Rattle.faults.proofs.is_face.Tie as tie
 returns : tie.Need-returns
 returns c = rw (c.is-miscellaneous.ensures, div-one c.before.args.token)
 
-pub is-face-spec : {M : Type 1} → statement M
-is-face-spec = tie.close (tie.spec (λ c κs. search rules) returns)
+pub is_face_spec : {M : Type 1} → statement M
+is_face_spec = tie.close (tie.spec (λ c κs. search rules) returns)

@@ -55,8 +55,8 @@ returns-2 c =
     let g = c.before.before.args in
     (sym (lowest_none (offends_in g.zeros g.fields g.token) l.bit (31 - l.bit) (omega arith)) ∙ l.invariant.1, l.invariant.0)
 
-pub lowest-offending-spec : {M : Type 1} → statement M
-lowest-offending-spec =
+pub lowest_offending_spec : {M : Type 1} → statement M
+lowest_offending_spec =
     tie.close
     (tie.spec
     invariant-loop

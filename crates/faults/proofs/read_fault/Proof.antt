@@ -16,5 +16,5 @@ returns c =
     c.fault_by_lem.ensures
     ∙ ap told_token (fault_sets (span 15 14) [] g.token (eqb (bit 13 g.token) 0 || g.may-be-relative) g.modifier-laid common_agrees none_agrees)
 
-pub read-fault-spec : {M : Type 1} → statement M
-read-fault-spec = tie.close (tie.spec (λ c κs. search rules) returns)
+pub read_fault_spec : {M : Type 1} → statement M
+read_fault_spec = tie.close (tie.spec (λ c κs. search rules) returns)

@@ -7,5 +7,5 @@ returns c = rw c.if1.true
 returns-2 : tie.Need-returns-2
 returns-2 c = rw c.if1.false
 
-pub texture-field-spec : {M : Type 1} → statement M
-texture-field-spec = tie.close (tie.spec returns returns-2)
+pub texture_field_spec : {M : Type 1} → statement M
+texture_field_spec = tie.close (tie.spec returns returns-2)

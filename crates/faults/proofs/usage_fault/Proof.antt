@@ -42,8 +42,8 @@ returns-3 c =
     (c.fault-by3.ensures
     ∙ rw c.before.usage-field.ensures (ap told_token (fault_sets (span 15 5 ++ span 30 20) (unless used 0) g.usage true true usage_agrees (used_agrees used))))
 
-pub usage-fault-spec : {M : Type 1} → statement M
-usage-fault-spec =
+pub usage_fault_spec : {M : Type 1} → statement M
+usage_fault_spec =
     tie.close
     (tie.spec
     (λ c κs. search rules)

@@ -16,5 +16,5 @@ returns c =
     c.fault_by_lem.ensures
     ∙ rw c.before.written_zeros_lem.ensures (ap told_token (fault_sets (written_zeros g.version) [] g.token (eqb (bit 13 g.token) 0 || g.may-be-relative) true (written_agrees g.version) none_agrees))
 
-pub written-fault-spec : {M : Type 1} → statement M
-written-fault-spec = tie.close (tie.spec (λ c κs. search rules) (λ c κs. search rules) returns)
+pub written_fault_spec : {M : Type 1} → statement M
+written_fault_spec = tie.close (tie.spec (λ c κs. search rules) (λ c κs. search rules) returns)

@@ -19,5 +19,5 @@ returns-4 : tie.Need-returns-4
 returns-4 c =
     rw (sym c.before.before.is-pixel.ensures ∙ c.before.if1.false, sym c.before.before.before.has-shift-scale.ensures ∙ c.if3.false)
 
-pub written-zeros-spec : {M : Type 1} → statement M
-written-zeros-spec = tie.close (tie.spec (λ c κs. search rules) (λ c κs. search rules) returns returns-2 returns-3 returns-4)
+pub written_zeros_spec : {M : Type 1} → statement M
+written_zeros_spec = tie.close (tie.spec (λ c κs. search rules) (λ c κs. search rules) returns returns-2 returns-3 returns-4)

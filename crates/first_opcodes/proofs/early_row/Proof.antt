@@ -9,9 +9,9 @@ use Rattle.first_opcodes.proofs.Tables.{no_early}
 use Rattle.first_opcodes.proofs.early_row.Statement.{statement}
 use Rattle.first_opcodes.proofs.early_row.Tie as tie
 
-pub early-row-spec : {M : Type 1} → statement M
+pub early_row_spec : {M : Type 1} → statement M
 unfolding first_rows entry_of class_of classes shape_of early_row
-early-row-spec =
+early_row_spec =
     tie.close
     (tie.spec
     (λ c. ap early_row (sym c.match.keys1))

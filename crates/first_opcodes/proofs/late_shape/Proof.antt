@@ -9,9 +9,9 @@ use Rattle.first_opcodes.proofs.Tables.{no_late}
 use Rattle.first_opcodes.proofs.late_shape.Statement.{statement}
 use Rattle.first_opcodes.proofs.late_shape.Tie as tie
 
-pub late-shape-spec : {M : Type 1} → statement M
+pub late_shape_spec : {M : Type 1} → statement M
 unfolding first_rows entry_of class_of classes shape_of
-late-shape-spec =
+late_shape_spec =
     tie.close
     (tie.spec
     (λ c. ap (shape_of P14) (sym c.match.keys1))

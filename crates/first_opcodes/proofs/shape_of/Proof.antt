@@ -40,8 +40,8 @@ returns-6 c = absurd (omega (arith, c.before.before.if1.false, rw c.enum-told4.g
 returns-7 : tie.Need-returns-7
 returns-7 c = absurd (omega (arith, c.before.before.if1.false, rw c.enum-told5.given.1 at c.before.before.before.early-rank.ensures))
 
-pub shape-of-spec : {M : Type 1} → statement M
-shape-of-spec =
+pub shape_of_spec : {M : Type 1} → statement M
+shape_of_spec =
     tie.close
     (tie.spec
     (λ c κs. search rules)

@@ -9,9 +9,9 @@ use Rattle.first_opcodes.proofs.Tables.{no_vertex}
 use Rattle.first_opcodes.proofs.vertex_shape.Statement.{statement}
 use Rattle.first_opcodes.proofs.vertex_shape.Tie as tie
 
-pub vertex-shape-spec : {M : Type 1} → statement M
+pub vertex_shape_spec : {M : Type 1} → statement M
 unfolding first_rows entry_of class_of classes shape_of
-vertex-shape-spec =
+vertex_shape_spec =
     tie.close
     (tie.spec
     (λ c. ap (shape_of V1) (sym c.match.keys1))

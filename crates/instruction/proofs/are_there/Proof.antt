@@ -15,5 +15,5 @@ returns-2 c =
     let g = c.before.args in
     sym (le-leb g.claimed (g.shown + g.beyond) (omega (arith, c.if1.false)))
 
-pub are-there-spec : {M : Type 1} → statement M
-are-there-spec = tie.close (tie.spec (λ c. search rules) returns returns-2)
+pub are_there_spec : {M : Type 1} → statement M
+are_there_spec = tie.close (tie.spec (λ c. search rules) returns returns-2)

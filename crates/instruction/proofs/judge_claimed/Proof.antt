@@ -12,8 +12,8 @@ returns-2 c =
     rw (ne_eqb _ _ (λ e. c.before.before.if1.false (c.before.before.before.opcode-of.ensures ∙ e)), ← c.before.places_of.ensures)
     c.judge-operands.ensures
 
-pub judge-claimed-spec : {M : Type 1} → statement M
-judge-claimed-spec =
+pub judge_claimed_spec : {M : Type 1} → statement M
+judge_claimed_spec =
     tie.close
     (tie.spec
     (λ c κs. search rules)

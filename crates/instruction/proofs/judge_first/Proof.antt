@@ -64,8 +64,8 @@ returns-3 c =
     )
     c.refused-first.ensures
 
-pub judge-first-spec : {M : Type 1} → statement M
-judge-first-spec =
+pub judge_first_spec : {M : Type 1} → statement M
+judge_first_spec =
     tie.close
     (tie.spec
     (λ c κs. search rules)

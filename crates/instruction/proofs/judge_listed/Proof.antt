@@ -38,8 +38,8 @@ returns-3 c =
     rw (le-leb _ _ c.before.before.before.if1.false)
     (sym (operands_refused_number (operands_of g.version (opcode_of g.first) (places_in g.shape g.first) (take g.claim g.behind.now)) _ _ (class_of (opcode_of g.first)) c.before.judge-claimed.ensures c.if2.false))
 
-pub judge-listed-spec : {M : Type 1} → statement M
-judge-listed-spec =
+pub judge_listed_spec : {M : Type 1} → statement M
+judge_listed_spec =
     tie.close
     (tie.spec
     (λ c κs. search rules)

@@ -73,8 +73,8 @@ returns-6 c =
     rw (ne_eqb _ _ (λ e. c.before.before.if1.false (o.ensures ∙ e)), ne_eqb _ _ (λ e. c.before.if4.false (o.ensures ∙ e)))
     c.refused-first4.ensures
 
-pub judge-unlisted-spec : {M : Type 1} → statement M
-judge-unlisted-spec =
+pub judge_unlisted_spec : {M : Type 1} → statement M
+judge_unlisted_spec =
     tie.close
     (tie.spec
     (λ c κs. search rules)

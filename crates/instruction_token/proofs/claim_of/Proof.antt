@@ -39,8 +39,8 @@ returns-6 : tie.Need-returns-6
 unfolding bits_by claim_if
 returns-6 c = rw (← c.before.sized-laid.ensures, ← c.before.before.before.before.before.rule-in.ensures, ne_eqb _ _ c.before.before.if3.false, c.if6.false)
 
-pub claim-of-spec : {M : Type 1} → statement M
-claim-of-spec =
+pub claim_of_spec : {M : Type 1} → statement M
+claim_of_spec =
     tie.close
     (tie.spec
     (λ c κs. search rules)

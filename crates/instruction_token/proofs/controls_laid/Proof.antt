@@ -11,5 +11,5 @@ returns-2 c = simp (eq-eqb _ _ c.if2.true, ne_eqb _ _ c.before.if1.false)
 returns-3 : tie.Need-returns-3
 returns-3 c = simp (ne_eqb _ _ c.if2.false, ne_eqb _ _ c.before.if1.false)
 
-pub controls-laid-spec : {M : Type 1} → statement M
-controls-laid-spec = tie.close (tie.spec returns returns-2 returns-3)
+pub controls_laid_spec : {M : Type 1} → statement M
+controls_laid_spec = tie.close (tie.spec returns returns-2 returns-3)

@@ -12,8 +12,8 @@ returns-2 : tie.Need-returns-2
 unfolding places_by
 returns-2 c = rw (ne_eqb _ _ c.if1.false, c.before.places-in.ensures)
 
-pub places-of-spec : {M : Type 1} → statement M
-places-of-spec =
+pub places_of_spec : {M : Type 1} → statement M
+places_of_spec =
     tie.close
     (tie.spec
     (λ c κs. search rules)

@@ -20,6 +20,6 @@ returns-2 c =
 returns-3 : tie.Need-returns-3
 returns-3 c = sym (simp (sym c.before.read_laid_lem.ensures ∙ c.if1.false))
 
-pub any-source-laid-spec : {M : Type 1} → statement M
-any-source-laid-spec =
+pub any_source_laid_spec : {M : Type 1} → statement M
+any_source_laid_spec =
     tie.close (tie.spec (λ c κs. search rules) returns (λ c κs. search rules) (λ c κs. search rules) returns-2 returns-3)

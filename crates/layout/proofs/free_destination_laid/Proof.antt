@@ -21,5 +21,5 @@ returns-3 c =
     let g = c.before.before.args in
     sym (destination_order g.version free_destination g.token ∙ simp (sym c.before.written_laid_lem.ensures ∙ c.if1.false))
 
-pub free-destination-laid-spec : {M : Type 1} → statement M
-free-destination-laid-spec = tie.close (tie.spec (λ c κs. search rules) returns (λ c κs. search rules) returns-2 returns-3)
+pub free_destination_laid_spec : {M : Type 1} → statement M
+free_destination_laid_spec = tie.close (tie.spec (λ c κs. search rules) returns (λ c κs. search rules) returns-2 returns-3)

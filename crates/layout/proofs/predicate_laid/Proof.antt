@@ -17,5 +17,5 @@ returns-2 c =
     let g = c.before.before.args in
     sym (unfree_order g.version predicate g.token refl ∙ simp (sym c.before.unfree-laid.ensures ∙ c.if1.false))
 
-pub predicate-laid-spec : {M : Type 1} → statement M
-predicate-laid-spec = tie.close (tie.spec (λ c κs. search rules) (λ c κs. search rules) returns returns-2)
+pub predicate_laid_spec : {M : Type 1} → statement M
+predicate_laid_spec = tie.close (tie.spec (λ c κs. search rules) (λ c κs. search rules) returns returns-2)

@@ -9,5 +9,5 @@ returns c = simp (c.source_modifier_lem.ensures, sym c.before.before.both-laid.e
 returns-2 : tie.Need-returns-2
 returns-2 c = simp (sym c.before.both-laid.ensures ∙ c.if1.false)
 
-pub read-laid-spec : {M : Type 1} → statement M
-read-laid-spec = tie.close (tie.spec (λ c κs. search rules) (λ c κs. search rules) returns returns-2)
+pub read_laid_spec : {M : Type 1} → statement M
+read_laid_spec = tie.close (tie.spec (λ c κs. search rules) (λ c κs. search rules) returns returns-2)

@@ -10,5 +10,5 @@ returns c =
     let g = c.before.args in
     rw c.unfree-laid.ensures (sym (unfree_order g.version relative g.token refl))
 
-pub relative-laid-spec : {M : Type 1} → statement M
-relative-laid-spec = tie.close (tie.spec (λ c κs. search rules) returns)
+pub relative_laid_spec : {M : Type 1} → statement M
+relative_laid_spec = tie.close (tie.spec (λ c κs. search rules) returns)

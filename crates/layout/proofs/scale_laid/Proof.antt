@@ -9,5 +9,5 @@ returns c = simp (eq-eqb _ _ c.if1.true)
 returns-2 : tie.Need-returns-2
 returns-2 c = simp (c.has-shift-scale.ensures, ne_eqb _ _ c.before.if1.false)
 
-pub scale-laid-spec : {M : Type 1} → statement M
-scale-laid-spec = tie.close (tie.spec returns (λ c κs. search rules) returns-2)
+pub scale_laid_spec : {M : Type 1} → statement M
+scale_laid_spec = tie.close (tie.spec returns (λ c κs. search rules) returns-2)

@@ -5,5 +5,5 @@ use Rattle.layout.proofs.scaled_laid.Tie as tie
 returns : tie.Need-returns
 returns c = rw c.both-laid.ensures
 
-pub scaled-laid-spec : {M : Type 1} → statement M
-scaled-laid-spec = tie.close (tie.spec (λ c κs. search rules) returns)
+pub scaled_laid_spec : {M : Type 1} → statement M
+scaled_laid_spec = tie.close (tie.spec (λ c κs. search rules) returns)

@@ -20,6 +20,6 @@ returns-2 c =
     let g = c.before.before.before.args in
     sym (source_modifier_lem g.version (modifier_of g.token) (type_of g.token) (omega arith) ∙ simp (c.before.has-further.ensures, c.type-of.ensures.0, ne_eqb _ _ c.before.before.if1.false))
 
-pub source-modifier-spec : {M : Type 1} → statement M
-source-modifier-spec =
+pub source_modifier_spec : {M : Type 1} → statement M
+source_modifier_spec =
     tie.close (tie.spec (λ c. search rules) returns (λ c κs. search rules) (λ c. search rules) (λ c κs. search rules) returns-2)

@@ -16,5 +16,5 @@ returns-2 c =
     let g = c.before.before.before.args in
     sym (destination_order g.version declared g.token ∙ simp (c.written_laid_lem.ensures, or_false))
 
-pub typed-destination-laid-spec : {M : Type 1} → statement M
-typed-destination-laid-spec = tie.close (tie.spec (λ c κs. search rules) (λ c κs. search rules) returns (λ c κs. search rules) returns-2)
+pub typed_destination_laid_spec : {M : Type 1} → statement M
+typed_destination_laid_spec = tie.close (tie.spec (λ c κs. search rules) (λ c κs. search rules) returns (λ c κs. search rules) returns-2)

@@ -21,5 +21,5 @@ returns-3 c =
     let g = c.before.before.args in
     sym (source_order g.version condition g.token ∙ simp (sym c.before.read_laid_lem.ensures ∙ c.if1.false))
 
-pub typed-source-laid-spec : {M : Type 1} → statement M
-typed-source-laid-spec = tie.close (tie.spec (λ c κs. search rules) returns (λ c κs. search rules) returns-2 returns-3)
+pub typed_source_laid_spec : {M : Type 1} → statement M
+typed_source_laid_spec = tie.close (tie.spec (λ c κs. search rules) returns (λ c κs. search rules) returns-2 returns-3)

@@ -5,5 +5,5 @@ use Rattle.layout.proofs.unfree_laid.Tie as tie
 returns : tie.Need-returns
 returns c = rw c.both-laid.ensures
 
-pub unfree-laid-spec : {M : Type 1} → statement M
-unfree-laid-spec = tie.close (tie.spec (λ c κs. search rules) returns)
+pub unfree_laid_spec : {M : Type 1} → statement M
+unfree_laid_spec = tie.close (tie.spec (λ c κs. search rules) returns)

@@ -9,5 +9,5 @@ returns c =
     let g = c.before.before.before.args in
     rw (c.before.places-in.ensures, c.before.before.shape_of.ensures) at c.is-destination.ensures ∙ begins_destination_lem g.version g.opcode
 
-pub begins-destination-spec : {M : Type 1} → statement M
-begins-destination-spec = tie.close (tie.spec (λ c κs. search rules) (λ c κs. search rules) (λ c κs. search rules) returns)
+pub begins_destination_spec : {M : Type 1} → statement M
+begins_destination_spec = tie.close (tie.spec (λ c κs. search rules) (λ c κs. search rules) (λ c κs. search rules) returns)

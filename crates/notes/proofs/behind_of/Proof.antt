@@ -11,7 +11,7 @@ returns-2 c =
     rw (← c.before.before.before.opcode-of.ensures, eq-eqb _ _ c.before.before.if1.false, ← c.before.comment_length_lem.ensures)
     c.past-comment.ensures
 
-pub behind-of-spec : {M : Type 1} → statement M
-behind-of-spec =
+pub behind_of_spec : {M : Type 1} → statement M
+behind_of_spec =
     tie.close
     (tie.spec (λ c κs. search rules) returns (λ c κs. search rules) (λ c κs. search rules) returns-2)

@@ -5,5 +5,5 @@ use Rattle.notes.proofs.is_coissued_phase.Tie as tie
 returns : tie.Need-returns
 returns c = rw c.opcode-of.ensures
 
-pub is-coissued-phase-spec : {M : Type 1} → statement M
-is-coissued-phase-spec = tie.close (tie.spec (λ c κs. search rules) returns)
+pub is_coissued_phase_spec : {M : Type 1} → statement M
+is_coissued_phase_spec = tie.close (tie.spec (λ c κs. search rules) returns)

@@ -5,5 +5,5 @@ use Rattle.notes.proofs.is_short_sgn.Tie as tie
 returns : tie.Need-returns
 returns c = rw (c.before.has-predicates.ensures, c.opcode-of.ensures)
 
-pub is-short-sgn-spec : {M : Type 1} → statement M
-is-short-sgn-spec = tie.close (tie.spec (λ c κs. search rules) (λ c κs. search rules) returns)
+pub is_short_sgn_spec : {M : Type 1} → statement M
+is_short_sgn_spec = tie.close (tie.spec (λ c κs. search rules) (λ c κs. search rules) returns)

@@ -22,8 +22,8 @@ returns-3 c =
     rw (le-leb _ _ c.before.before.before.before.if1.false, sym (same_named _ _ c.before.before.before.version_of.ensures) ∙ c.before.enum_told.given.1)
     (ap told_noted c.refused-at2.ensures)
 
-pub next-note-spec : {M : Type 1} → statement M
-next-note-spec =
+pub next_note_spec : {M : Type 1} → statement M
+next_note_spec =
     tie.close
     (tie.spec
     (λ c κs. search rules)

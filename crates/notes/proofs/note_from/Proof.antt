@@ -110,8 +110,8 @@ returns-3 c =
     c.refused-at2.ensures
     ∙ sym (l.invariant ∙ search_none g.version g.tokens.now l.before l.comments l.at c.before.loop-test.false)
 
-pub note-from-spec : {M : Type 1} → statement M
-note-from-spec =
+pub note_from_spec : {M : Type 1} → statement M
+note_from_spec =
     tie.close
     (tie.spec
     invariant-loop

@@ -14,8 +14,8 @@ returns-3 : tie.Need-returns-3
 returns-3 c =
     rw (← c.before.before.before.opcode-of.ensures, ne_eqb _ _ c.before.before.if1.false, ne_eqb _ _ c.before.if2.false) c.on-other.ensures
 
-pub notes-of-spec : {M : Type 1} → statement M
-notes-of-spec =
+pub notes_of_spec : {M : Type 1} → statement M
+notes_of_spec =
     tie.close
     (tie.spec
     (λ c κs. search rules)

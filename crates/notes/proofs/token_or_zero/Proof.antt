@@ -9,5 +9,5 @@ returns-2 c =
     let g = c.before.args in
     sym (get_or-eq_default g.tokens.now 0 {n = g.at} c.if1.false)
 
-pub token-or-zero-spec : {M : Type 1} → statement M
-token-or-zero-spec = tie.close (tie.spec (λ c. search rules) (λ c. search rules) (λ c. search rules) returns-2)
+pub token_or_zero_spec : {M : Type 1} → statement M
+token_or_zero_spec = tie.close (tie.spec (λ c. search rules) (λ c. search rules) (λ c. search rules) returns-2)

@@ -36,8 +36,8 @@ returns-3 c = rw (ne_eqb _ _ c.before.if1.false, c.if3.true) at (looks c.before.
 returns-4 : tie.Need-returns-4
 returns-4 c = rw (ne_eqb _ _ c.before.if1.false, c.if3.false) at (looks c.before.before)
 
-pub base-shape-spec : {M : Type 1} → statement M
-base-shape-spec =
+pub base_shape_spec : {M : Type 1} → statement M
+base_shape_spec =
     tie.close
     (tie.spec
     (λ c κs. search rules)

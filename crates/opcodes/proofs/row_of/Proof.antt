@@ -8,9 +8,9 @@ use Rattle.opcodes.proofs.Table.{no_row_lem}
 use Rattle.opcodes.proofs.row_of.Statement.{statement}
 use Rattle.opcodes.proofs.row_of.Tie as tie
 
-pub row-of-spec : {M : Type 1} → statement M
+pub row_of_spec : {M : Type 1} → statement M
 unfolding rows entry_of typed_places class_of classes row_of
-row-of-spec =
+row_of_spec =
     tie.close
     (tie.spec
     (λ c. ap row_of (sym c.match.keys1))

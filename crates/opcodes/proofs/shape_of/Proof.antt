@@ -9,8 +9,8 @@ base-shape-requires c κs = sym c.before.has-sizes.ensures ∙ c.if1.true
 returns-2 : tie.Need-returns-2
 returns-2 c = rw (c.shape_of.ensures, ← c.before.before.has-sizes.ensures, c.before.if1.false)
 
-pub shape-of-spec : {M : Type 1} → statement M
-shape-of-spec =
+pub shape_of_spec : {M : Type 1} → statement M
+shape_of_spec =
     tie.close
     (tie.spec
     (λ c κs. search rules)

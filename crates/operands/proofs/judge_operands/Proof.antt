@@ -79,8 +79,8 @@ returns-3 c =
     ∙ ap operands_number
     (sym (operands_over g.version l.left (l.at + 1) l.at g.behind.now c.before.before.loop-test.false l.invariant.0 c.before.if2.false) ∙ l.invariant.3)
 
-pub judge-operands-spec : {M : Type 1} → statement M
-judge-operands-spec =
+pub judge_operands_spec : {M : Type 1} → statement M
+judge_operands_spec =
     tie.close
     (tie.spec
     invariant-loop

@@ -25,8 +25,8 @@ returns-2 c =
     (s.requires.0
     ∙ sym (brief_type g.version (place_by g.place) g.token (λ z. s.requires.1 (s.requires.0 ∙ z)) (λ o. c.before.if1.false (s.requires.0 ∙ o))))
 
-pub refused-at-spec : {M : Type 1} → statement M
-refused-at-spec =
+pub refused_at_spec : {M : Type 1} → statement M
+refused_at_spec =
     tie.close
     (tie.spec
     (λ c. search rules)

@@ -19,8 +19,8 @@ returns-2 c = simp (c.take-relative.ensures, eq-eqb _ _ c.before.before.if1.fals
 returns-3 : tie.Need-returns-3
 returns-3 c = simp (eq-eqb _ _ c.before.if1.false, ne_eqb _ _ c.if2.false)
 
-pub take-free-spec : {M : Type 1} → statement M
-take-free-spec =
+pub take_free_spec : {M : Type 1} → statement M
+take_free_spec =
     tie.close
     (tie.spec
     refused-at-requires

@@ -45,8 +45,8 @@ returns-4 c =
     let g = c.before.before.before.before.before.before.before.args in
     rw (typed_number g.version (place_by g.place) (g.at + 1) g.at _ g.behind.now c.before.before.before.before.before.if1.false c.before.judge-token.ensures (not_free g.place c.before.before.before.if2.false c.before.before.if3.false)) c.take-typed.ensures
 
-pub take-operand-spec : {M : Type 1} → statement M
-take-operand-spec =
+pub take_operand_spec : {M : Type 1} → statement M
+take_operand_spec =
     tie.close
     (tie.spec
     (λ c κs. search rules)

@@ -26,8 +26,8 @@ returns-3 c =
     let g = c.before.before.before.before.before.before.args in
     rw (relative_number g.version (g.at + 1) g.at _ g.behind.now c.before.before.before.before.if1.false c.before.before.judge-relative.ensures, ne_eqb _ _ c.before.if2.false) (rw relative_place at c.refused-at.ensures)
 
-pub take-relative-spec : {M : Type 1} → statement M
-take-relative-spec =
+pub take_relative_spec : {M : Type 1} → statement M
+take_relative_spec =
     tie.close
     (tie.spec
     (λ c κs. search rules)

@@ -11,5 +11,5 @@ refused-at-requires c κs = (c.before.requires.0, c.if1.false, c.before.requires
 returns-2 : tie.Need-returns-2
 returns-2 c = simp (c.refused-at.ensures, ne_eqb _ _ c.before.if1.false)
 
-pub take-typed-spec : {M : Type 1} → statement M
-take-typed-spec = tie.close (tie.spec returns refused-at-requires returns-2)
+pub take_typed_spec : {M : Type 1} → statement M
+take_typed_spec = tie.close (tie.spec returns refused-at-requires returns-2)

@@ -6,5 +6,5 @@ use Rattle.places.proofs.is_destination.Tie as tie
 returns : tie.Need-returns
 returns c = sym (destination_by c.args.place)
 
-pub is-destination-spec : {M : Type 1} → statement M
-is-destination-spec = tie.close (tie.spec returns)
+pub is_destination_spec : {M : Type 1} → statement M
+is_destination_spec = tie.close (tie.spec returns)

@@ -6,5 +6,5 @@ use Rattle.places.proofs.is_free.Tie as tie
 returns : tie.Need-returns
 returns c = sym (free_by c.args.place)
 
-pub is-free-spec : {M : Type 1} → statement M
-is-free-spec = tie.close (tie.spec returns)
+pub is_free_spec : {M : Type 1} → statement M
+is_free_spec = tie.close (tie.spec returns)

@@ -6,5 +6,5 @@ use Rattle.places.proofs.is_predicate.Tie as tie
 returns : tie.Need-returns
 returns c = sym (predicate_by c.args.place)
 
-pub is-predicate-spec : {M : Type 1} → statement M
-is-predicate-spec = tie.close (tie.spec returns)
+pub is_predicate_spec : {M : Type 1} → statement M
+is_predicate_spec = tie.close (tie.spec returns)

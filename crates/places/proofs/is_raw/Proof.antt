@@ -6,5 +6,5 @@ use Rattle.places.proofs.is_raw.Tie as tie
 returns : tie.Need-returns
 returns c = sym (raw_by c.args.place)
 
-pub is-raw-spec : {M : Type 1} → statement M
-is-raw-spec = tie.close (tie.spec returns)
+pub is_raw_spec : {M : Type 1} → statement M
+is_raw_spec = tie.close (tie.spec returns)

@@ -52,8 +52,8 @@ returns-3 c =
     rw (c.read-record.ensures, c.before.before.before.before.class_of.ensures, c.before.before.before.type_size.ensures)
     (sym (good c.before.before.before.before.before.before c.before.before.before.before.before.if2.false).reads)
 
-pub read-at-spec : {M : Type 1} → statement M
-read-at-spec =
+pub read_at_spec : {M : Type 1} → statement M
+read_at_spec =
     tie.close
     (tie.spec
     (λ c κs. search rules)

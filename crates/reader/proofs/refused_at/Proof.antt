@@ -5,5 +5,5 @@ use Rattle.reader.proofs.refused_at.Tie as tie
 returns : tie.Need-returns
 returns c = rw c.no_record.ensures
 
-pub refused-at-spec : {M : Type 1} → statement M
-refused-at-spec = tie.close (tie.spec (λ c κs. search rules) returns)
+pub refused_at_spec : {M : Type 1} → statement M
+refused_at_spec = tie.close (tie.spec (λ c κs. search rules) returns)

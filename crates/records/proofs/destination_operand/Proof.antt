@@ -6,5 +6,5 @@ use Rattle.records.proofs.destination_operand.Tie as tie
 returns : tie.Need-returns
 returns c = rw (div-one c.args.token, div-one c.args.relative)
 
-pub destination-operand-spec : {M : Type 1} → statement M
-destination-operand-spec = tie.close (tie.spec (λ c. search rules) (λ c. search rules) (λ c. search rules) (λ c. search rules) returns)
+pub destination_operand_spec : {M : Type 1} → statement M
+destination_operand_spec = tie.close (tie.spec (λ c. search rules) (λ c. search rules) (λ c. search rules) (λ c. search rules) returns)

@@ -5,5 +5,5 @@ use Rattle.records.proofs.empty_record.Tie as tie
 returns : tie.Need-returns
 returns c = rw c.no_Operand.ensures
 
-pub empty-record-spec : {M : Type 1} → statement M
-empty-record-spec = tie.close (tie.spec (λ c κs. search rules) returns)
+pub empty_record_spec : {M : Type 1} → statement M
+empty_record_spec = tie.close (tie.spec (λ c κs. search rules) returns)

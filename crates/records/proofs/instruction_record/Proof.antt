@@ -6,5 +6,5 @@ use Rattle.records.proofs.instruction_record.Tie as tie
 returns : tie.Need-returns
 returns c = rw (c.read-operands.ensures, div-one c.before.before.args.first)
 
-pub instruction-record-spec : {M : Type 1} → statement M
-instruction-record-spec = tie.close (tie.spec (λ c κs. search rules) returns)
+pub instruction_record_spec : {M : Type 1} → statement M
+instruction_record_spec = tie.close (tie.spec (λ c κs. search rules) returns)

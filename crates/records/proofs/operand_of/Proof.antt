@@ -26,8 +26,8 @@ returns-3 c =
       sym c.before.before.is-destination.ensures ∙ c.before.if2.false,
     )
 
-pub operand-of-spec : {M : Type 1} → statement M
-operand-of-spec =
+pub operand_of_spec : {M : Type 1} → statement M
+operand_of_spec =
     tie.close
     (tie.spec
     (λ c κs. search rules)

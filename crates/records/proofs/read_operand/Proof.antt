@@ -55,8 +55,8 @@ returns-4 c =
     (c.source-operand.ensures
     ∙ rw (sym e.before.is-raw.ensures ∙ e.if2.false, sym c.before.before.is-destination.ensures ∙ c.before.if3.false))
 
-pub read-operand-spec : {M : Type 1} → statement M
-read-operand-spec =
+pub read_operand_spec : {M : Type 1} → statement M
+read_operand_spec =
     tie.close
     (tie.spec
     (λ c. search rules)

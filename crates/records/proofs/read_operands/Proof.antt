@@ -159,8 +159,8 @@ returns-6 c =
       v.read-operand5.ensures.0,
     )
 
-pub read-operands-spec : {M : Type 1} → statement M
-read-operands-spec =
+pub read_operands_spec : {M : Type 1} → statement M
+read_operands_spec =
     tie.close
     (tie.spec
     (λ c κs. search rules)

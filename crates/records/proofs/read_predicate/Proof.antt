@@ -28,5 +28,5 @@ returns c =
 returns-2 : tie.Need-returns-2
 returns-2 c = rw c.before.if1.false (c.no_Operand.ensures, omega arith)
 
-pub read-predicate-spec : {M : Type 1} → statement M
-read-predicate-spec = tie.close (tie.spec read-operand-requires returns (λ c κs. search rules) returns-2)
+pub read_predicate_spec : {M : Type 1} → statement M
+read_predicate_spec = tie.close (tie.spec read-operand-requires returns (λ c κs. search rules) returns-2)

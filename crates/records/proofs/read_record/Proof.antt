@@ -29,8 +29,8 @@ returns-3 c =
     let d = c.before.before.before.before in
     rw (ne_eqb _ _ d.before.if1.false, ne_eqb _ _ d.if2.false, ← (row c.before)) c.instruction-record.ensures
 
-pub read-record-spec : {M : Type 1} → statement M
-read-record-spec =
+pub read_record_spec : {M : Type 1} → statement M
+read_record_spec =
     tie.close
     (tie.spec
     (λ c κs. search rules)

@@ -6,5 +6,5 @@ use Rattle.records.proofs.source_operand.Tie as tie
 returns : tie.Need-returns
 returns c = rw (div-one c.args.token, div-one c.args.relative)
 
-pub source-operand-spec : {M : Type 1} → statement M
-source-operand-spec = tie.close (tie.spec (λ c. search rules) (λ c. search rules) (λ c. search rules) (λ c. search rules) returns)
+pub source_operand_spec : {M : Type 1} → statement M
+source_operand_spec = tie.close (tie.spec (λ c. search rules) (λ c. search rules) (λ c. search rules) (λ c. search rules) returns)

@@ -21,8 +21,8 @@ returns-2 c = simp c.before.edited2.given.1
 returns-3 : tie.Need-returns-3
 returns-3 c = simp (c.number_of_lem.ensures, c.before.before.edited3.given.1)
 
-pub edit-answer-of-spec : {M : Type 1} → statement M
-edit-answer-of-spec =
+pub edit_answer_of_spec : {M : Type 1} → statement M
+edit_answer_of_spec =
     tie.close
     (tie.spec
     (λ c. search rules)

@@ -14,5 +14,5 @@ returns c =
     c.answer-of.ensures
     ∙ ap (answer_of (length g.bytes.now / 4)) (same_verdict c.before.check-bytes.result (bytes_verdict g.bytes.now) c.before.check-bytes.ensures)
 
-pub santubeli-check-spec : {M : Type 1} → statement M
-santubeli-check-spec = tie.close (tie.spec (λ c κs. search rules) (λ c κs. search rules) returns)
+pub santubeli_check_spec : {M : Type 1} → statement M
+santubeli_check_spec = tie.close (tie.spec (λ c κs. search rules) (λ c κs. search rules) returns)

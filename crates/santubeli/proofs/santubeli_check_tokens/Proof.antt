@@ -13,5 +13,5 @@ returns c =
     c.answer-of.ensures
     ∙ ap (answer_of (length g.tokens.now)) (same_verdict c.before.check.result (verdict g.tokens.now) c.before.check.ensures)
 
-pub santubeli-check-tokens-spec : {M : Type 1} → statement M
-santubeli-check-tokens-spec = tie.close (tie.spec (λ c κs. search rules) (λ c κs. search rules) returns)
+pub santubeli_check_tokens_spec : {M : Type 1} → statement M
+santubeli_check_tokens_spec = tie.close (tie.spec (λ c κs. search rules) (λ c κs. search rules) returns)

@@ -23,6 +23,6 @@ returns c =
       e.ensures.1,
     )
 
-pub santubeli-edit-spec : {M : Type 1} → statement M
-santubeli-edit-spec =
+pub santubeli_edit_spec : {M : Type 1} → statement M
+santubeli_edit_spec =
     tie.close (tie.spec (λ c κs. search rules) (λ c κs. search rules) (λ c. search rules) returns)

@@ -12,5 +12,5 @@ returns c =
     c.note-answer-of.ensures
     ∙ ap note_answer_of (same_noted c.before.next-note.result (noted g.version g.tokens.now g.at) c.before.next-note.ensures)
 
-pub santubeli-note-spec : {M : Type 1} → statement M
-santubeli-note-spec = tie.close (tie.spec (λ c κs. search rules) (λ c κs. search rules) returns)
+pub santubeli_note_spec : {M : Type 1} → statement M
+santubeli_note_spec = tie.close (tie.spec (λ c κs. search rules) (λ c κs. search rules) returns)

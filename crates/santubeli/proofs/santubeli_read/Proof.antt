@@ -9,8 +9,8 @@ returns c = rw (← (told_one _ _ c.before.before.before.before.read.ensures), c
 returns-2 : tie.Need-returns-2
 returns-2 c = rw (← (told_one _ _ c.before.before.before.before.before.read.ensures), c.before.before.answer2.given.1, c.number_of_lem.ensures)
 
-pub santubeli-read-spec : {M : Type 1} → statement M
-santubeli-read-spec =
+pub santubeli_read_spec : {M : Type 1} → statement M
+santubeli_read_spec =
     tie.close
     (tie.spec
     (λ c κs. search rules)

@@ -7,8 +7,8 @@ slice-aggregate-print-notes c =
     let decoded = c.before.before.before.before.decode in
     sym (length-take-le decoded.result decoded.new.1.0 decoded.ensures.1.1)
 
-pub print-accepted-with-notes-spec : {M : Type 1} → statement M
-print-accepted-with-notes-spec =
+pub print_accepted_with_notes_spec : {M : Type 1} → statement M
+print_accepted_with_notes_spec =
     tie.close
     (tie.spec
     (λ c. search rules)

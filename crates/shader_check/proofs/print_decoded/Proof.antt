@@ -7,8 +7,8 @@ slice-aggregate-print-fault c =
     let decoded = c.before.before.decode in
     sym (length-take-le decoded.result decoded.new.1.0 decoded.ensures.1.1)
 
-pub print-decoded-spec : {M : Type 1} → statement M
-print-decoded-spec =
+pub print_decoded_spec : {M : Type 1} → statement M
+print_decoded_spec =
     tie.close
     (tie.spec
     (λ c. search rules)

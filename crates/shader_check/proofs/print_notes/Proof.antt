@@ -18,8 +18,8 @@ loop-less c =
     let lies = told_lies g.tokens.now turn.loop.at g.version call.result call.ensures given.0.0 given.1 in
     omega (arith, lies.comes, lies.ends, lies.inside)
 
-pub print-notes-spec : {M : Type 1} → statement M
-print-notes-spec =
+pub print_notes_spec : {M : Type 1} → statement M
+print_notes_spec =
     tie.close
     (tie.spec
     invariant-loop

@@ -10,5 +10,5 @@ returns c =
     let g = c.before.before.args in
     c.judge-stretch.ensures.is ∙ ap (told_at g.version g.tokens.now g.beyond) (leads_one c.judge-stretch.ensures.leads)
 
-pub judge-at-spec : {M : Type 1} → statement M
-judge-at-spec = tie.close (tie.spec (λ c κs. search rules) returns)
+pub judge_at_spec : {M : Type 1} → statement M
+judge_at_spec = tie.close (tie.spec (λ c κs. search rules) returns)

@@ -87,8 +87,8 @@ returns-3 c =
       ends = rw c.refused-first.ensures refl;
     }
 
-pub judge-stretch-spec : {M : Type 1} → statement M
-judge-stretch-spec =
+pub judge_stretch_spec : {M : Type 1} → statement M
+judge_stretch_spec =
     tie.close
     (tie.spec
     invariant-loop

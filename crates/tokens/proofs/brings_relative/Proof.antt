@@ -5,5 +5,5 @@ use Rattle.tokens.proofs.brings_relative.Tie as tie
 returns : tie.Need-returns
 returns c = rw c.is_free.ensures
 
-pub brings-relative-spec : {M : Type 1} → statement M
-brings-relative-spec = tie.close (tie.spec (λ c κs. search rules) returns)
+pub brings_relative_spec : {M : Type 1} → statement M
+brings_relative_spec = tie.close (tie.spec (λ c κs. search rules) returns)

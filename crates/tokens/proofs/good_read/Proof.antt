@@ -9,5 +9,5 @@ returns c = rw (c.type-in.ensures, sym c.before.before.any-source-laid.ensures �
 returns-2 : tie.Need-returns-2
 returns-2 c = rw (sym c.before.any-source-laid.ensures ∙ c.if1.false)
 
-pub good-read-spec : {M : Type 1} → statement M
-good-read-spec = tie.close (tie.spec (λ c κs. search rules) (λ c κs. search rules) returns returns-2)
+pub good_read_spec : {M : Type 1} → statement M
+good_read_spec = tie.close (tie.spec (λ c κs. search rules) (λ c κs. search rules) returns returns-2)

@@ -14,8 +14,8 @@ returns-2 c = rw (c.type-in2.ensures, sym c.before.before.free-destination-laid.
 returns-3 : tie.Need-returns-3
 returns-3 c = rw (sym c.before.free-destination-laid.ensures ∙ c.if2.false)
 
-pub good-written-spec : {M : Type 1} → statement M
-good-written-spec =
+pub good_written_spec : {M : Type 1} → statement M
+good_written_spec =
     tie.close
     (tie.spec
     (λ c κs. search rules)

@@ -15,8 +15,8 @@ returns-2 c = rw (c.told-by-type2.ensures, c.before.free-destination-types2.ensu
 returns-3 : tie.Need-returns-3
 returns-3 c = rw (sym c.before.free-destination-laid.ensures ∙ c.if2.false)
 
-pub judge-destination-spec : {M : Type 1} → statement M
-judge-destination-spec =
+pub judge_destination_spec : {M : Type 1} → statement M
+judge_destination_spec =
     tie.close
     (tie.spec
     (λ c κs. search rules)

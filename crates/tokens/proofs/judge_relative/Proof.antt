@@ -11,8 +11,8 @@ returns-2 : tie.Need-returns-2
 returns-2 c =
     rw (sym c.before.relative-laid.ensures ∙ c.if1.false)
 
-pub judge-relative-spec : {M : Type 1} → statement M
-judge-relative-spec =
+pub judge_relative_spec : {M : Type 1} → statement M
+judge_relative_spec =
     tie.close
     (tie.spec
     (λ c κs. search rules)

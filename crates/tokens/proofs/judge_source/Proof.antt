@@ -15,8 +15,8 @@ returns-2 c = rw (c.told-by-type2.ensures, c.before.free-source-types2.ensures, 
 returns-3 : tie.Need-returns-3
 returns-3 c = rw (sym c.before.free-source-laid.ensures ∙ c.if2.false)
 
-pub judge-source-spec : {M : Type 1} → statement M
-judge-source-spec =
+pub judge_source_spec : {M : Type 1} → statement M
+judge_source_spec =
     tie.close
     (tie.spec
     (λ c κs. search rules)

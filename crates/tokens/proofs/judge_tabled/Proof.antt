@@ -19,5 +19,5 @@ returns c =
 returns-2 : tie.Need-returns-2
 returns-2 c = rw (sym c.before.tabled-laid.ensures ∙ c.if1.false)
 
-pub judge-tabled-spec : {M : Type 1} → statement M
-judge-tabled-spec = tie.close (tie.spec (λ c κs. search rules) (λ c κs. search rules) returns returns-2)
+pub judge_tabled_spec : {M : Type 1} → statement M
+judge_tabled_spec = tie.close (tie.spec (λ c κs. search rules) (λ c κs. search rules) returns returns-2)

@@ -43,8 +43,8 @@ returns-5 c = rw (c.told_typed.ensures, c.before.typed_at.ensures, sym c.before.
 returns-6 : tie.Need-returns-6
 returns-6 c = rw (sym c.before.typed-laid.ensures ∙ c.if5.false)
 
-pub judge-token-spec : {M : Type 1} → statement M
-judge-token-spec =
+pub judge_token_spec : {M : Type 1} → statement M
+judge_token_spec =
     tie.close
     (tie.spec
     (λ c κs. search rules)

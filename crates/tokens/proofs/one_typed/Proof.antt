@@ -19,5 +19,5 @@ returns c =
     ∙ rw (c.before.only-type.ensures, one_bit (only_type g.place) small)
     (one_among (only_type g.place) (type_of g.token) small (type_small g.token))
 
-pub one-typed-spec : {M : Type 1} → statement M
-one-typed-spec = tie.close (tie.spec (λ c κs. search rules) (λ c. search rules) (λ c κs. search rules) returns)
+pub one_typed_spec : {M : Type 1} → statement M
+one_typed_spec = tie.close (tie.spec (λ c κs. search rules) (λ c. search rules) (λ c κs. search rules) returns)

@@ -9,5 +9,5 @@ returns c = rw (sym c.before.before.is-destination.ensures ∙ c.before.if1.true
 returns-2 : tie.Need-returns-2
 returns-2 c = rw (sym c.before.before.is-destination.ensures ∙ c.before.if1.false) c.plain-source.ensures
 
-pub plain-at-spec : {M : Type 1} → statement M
-plain-at-spec = tie.close (tie.spec (λ c κs. search rules) (λ c κs. search rules) returns (λ c κs. search rules) returns-2)
+pub plain_at_spec : {M : Type 1} → statement M
+plain_at_spec = tie.close (tie.spec (λ c κs. search rules) (λ c κs. search rules) returns (λ c κs. search rules) returns-2)

@@ -24,8 +24,8 @@ returns-3 c =
     c.typed-source-laid.ensures
     ∙ (rw (sym c.before.before.is-destination.ensures ∙ c.before.if2.false) at (of_its_kind g.version g.token g.place s.requires))
 
-pub tabled-laid-spec : {M : Type 1} → statement M
-tabled-laid-spec =
+pub tabled_laid_spec : {M : Type 1} → statement M
+tabled_laid_spec =
     tie.close
     (tie.spec
     (λ c κs. search rules)

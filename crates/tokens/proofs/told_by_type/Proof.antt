@@ -9,5 +9,5 @@ returns c = rw (sym c.before.type-in.ensures ∙ c.if1.true)
 returns-2 : tie.Need-returns-2
 returns-2 c = rw (sym c.before.type-in.ensures ∙ c.if1.false)
 
-pub told-by-type-spec : {M : Type 1} → statement M
-told-by-type-spec = tie.close (tie.spec (λ c κs. search rules) returns returns-2)
+pub told_by_type_spec : {M : Type 1} → statement M
+told_by_type_spec = tie.close (tie.spec (λ c κs. search rules) returns returns-2)

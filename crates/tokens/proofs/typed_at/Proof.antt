@@ -25,8 +25,8 @@ returns-5 c =
     c.before.before.before.if2.false c.before.before.if3.false c.before.if4.false in
     c.one-Typed.ensures ∙ sym (rw (untabled g.place s.requires.2) at types)
 
-pub typed-at-spec : {M : Type 1} → statement M
-typed-at-spec =
+pub typed_at_spec : {M : Type 1} → statement M
+typed_at_spec =
     tie.close
     (tie.spec
     (λ c κs. search rules)

@@ -34,8 +34,8 @@ returns-5 c =
     ∙ typed_source_at s.args.version s.args.token s.args.place s.requires.0 s.requires.1
     (sym c.before.before.before.before.before.is-destination.ensures ∙ c.before.before.before.before.if1.false) c.before.before.if3.false c.before.if4.false
 
-pub typed-laid-spec : {M : Type 1} → statement M
-typed-laid-spec =
+pub typed_laid_spec : {M : Type 1} → statement M
+typed_laid_spec =
     tie.close
     (tie.spec
     (λ c κs. search rules)

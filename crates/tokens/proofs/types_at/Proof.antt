@@ -6,9 +6,9 @@ use Rattle.tokens.proofs.TokenAt.{none_from}
 use Rattle.tokens.proofs.types_at.Statement.{statement}
 use Rattle.tokens.proofs.types_at.Tie as tie
 
-pub types-at-spec : {M : Type 1} → statement M
+pub types_at_spec : {M : Type 1} → statement M
 unfolding types_by types_at
-types-at-spec =
+types_at_spec =
     tie.close
     (tie.spec
     (λ c. rw c.match.keys1)

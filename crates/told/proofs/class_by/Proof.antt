@@ -21,8 +21,8 @@ other c =
       ne_eqb _ _ c.match.rest.1,
     )
 
-pub class-by-spec : {M : Type 1} → statement M
-class-by-spec =
+pub class_by_spec : {M : Type 1} → statement M
+class_by_spec =
     tie.close
     (tie.spec
     (λ c. rw c.match.keys1)

@@ -22,7 +22,7 @@ returns-2 c =
       sym c.before.before.before.is_refused_lem.ensures ∙ c.before.before.if1.false,
     )
 
-pub judged-of-spec : {M : Type 1} → statement M
-judged-of-spec =
+pub judged_of_spec : {M : Type 1} → statement M
+judged_of_spec =
     tie.close
     (tie.spec (λ c κs. search rules) (λ c κs. search rules) (λ c κs. search rules) (λ c κs. search rules) returns (λ c κs. search rules) (λ c κs. search rules) returns-2)

@@ -23,8 +23,8 @@ other c =
       ne_eqb _ _ c.match.rest.1,
     )
 
-pub reason-by-spec : {M : Type 1} → statement M
-reason-by-spec =
+pub reason_by_spec : {M : Type 1} → statement M
+reason_by_spec =
     tie.close
     (tie.spec
     (λ c. rw c.match.keys1)

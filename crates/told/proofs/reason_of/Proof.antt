@@ -6,5 +6,5 @@ use Rattle.told.proofs.reason_of.Tie as tie
 returns : tie.Need-returns
 returns c = ap number_of c.reason-by.ensures
 
-pub reason-of-spec : {M : Type 1} → statement M
-reason-of-spec = tie.close (tie.spec (λ c κs. search rules) returns)
+pub reason_of_spec : {M : Type 1} → statement M
+reason_of_spec = tie.close (tie.spec (λ c κs. search rules) returns)

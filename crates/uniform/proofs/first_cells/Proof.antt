@@ -8,9 +8,9 @@ use Rattle.uniform.proofs.Tables.{no_first_cells}
 use Rattle.uniform.proofs.first_cells.Statement.{statement}
 use Rattle.uniform.proofs.first_cells.Tie as tie
 
-pub first-cells-spec : {M : Type 1} → statement M
+pub first_cells_spec : {M : Type 1} → statement M
 unfolding first_rows entry_of kind_of first_cells
-first-cells-spec =
+first_cells_spec =
     tie.close
     (tie.spec
     (λ c. ap first_cells (sym c.match.keys1))

@@ -24,6 +24,6 @@ returns-2 c =
     let sizeless = sym (sized_rank g.version) ∙ (rw c.before.before.before.rank-of.ensures at (le-ltb _ 4 c.before.before.if1.false)) in
     c.row_by.ensures ∙ row_found g.version g.opcode _ _ sizeless c.before.before.before.rank-of.ensures c.before.first-cells.ensures
 
-pub first-row-spec : {M : Type 1} → statement M
-first-row-spec =
+pub first_row_spec : {M : Type 1} → statement M
+first_row_spec =
     tie.close (tie.spec (λ c κs. search rules) returns (λ c κs. search rules) mul-row-by shr-row-by (λ c κs. search rules) returns-2)

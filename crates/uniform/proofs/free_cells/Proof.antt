@@ -8,9 +8,9 @@ use Rattle.uniform.proofs.Tables.{no_free_cells}
 use Rattle.uniform.proofs.free_cells.Statement.{statement}
 use Rattle.uniform.proofs.free_cells.Tie as tie
 
-pub free-cells-spec : {M : Type 1} → statement M
+pub free_cells_spec : {M : Type 1} → statement M
 unfolding rows entry_of typed_places kind_of uniform_of free_cells
-free-cells-spec =
+free_cells_spec =
     tie.close
     (tie.spec
     (λ c. ap free_cells (sym c.match.keys1))

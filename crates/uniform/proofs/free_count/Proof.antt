@@ -27,6 +27,6 @@ returns c = rw (eq-eqb _ _ c.if1.true) at (looks c.before)
 returns-2 : tie.Need-returns-2
 returns-2 c = rw (ne_eqb _ _ c.if1.false) at (looks c.before)
 
-pub free-count-spec : {M : Type 1} → statement M
-free-count-spec =
+pub free_count_spec : {M : Type 1} → statement M
+free_count_spec =
     tie.close (tie.spec (λ c κs. search rules) (λ c κs. search rules) add-if1 shr-if1 returns returns-2)

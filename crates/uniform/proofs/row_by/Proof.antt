@@ -5,9 +5,9 @@ use Rattle.uniform.proofs.Tables.{no_row_lem}
 use Rattle.uniform.proofs.row_by.Statement.{statement}
 use Rattle.uniform.proofs.row_by.Tie as tie
 
-pub row-by-spec : {M : Type 1} → statement M
+pub row_by_spec : {M : Type 1} → statement M
 unfolding row_by
-row-by-spec =
+row_by_spec =
     tie.close
     (tie.spec
     (λ c. ap row_by (sym c.match.keys1))

@@ -2,8 +2,8 @@ use Rattle.std.proofs.Common.{rules}
 use Rattle.walk.proofs.behind_of.Statement.{statement}
 use Rattle.walk.proofs.behind_of.Tie as tie
 
-pub behind-of-spec : {M : Type 1} → statement M
-behind-of-spec =
+pub behind_of_spec : {M : Type 1} → statement M
+behind_of_spec =
     tie.close
     (tie.spec
     (λ c κs. search rules)

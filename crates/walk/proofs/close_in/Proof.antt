@@ -2,8 +2,8 @@ use Rattle.std.proofs.Common.{rules, eq-eqb, ne_eqb}
 use Rattle.walk.proofs.close_in.Statement.{statement}
 use Rattle.walk.proofs.close_in.Tie as tie
 
-pub close-in-spec : {M : Type 1} → statement M
-close-in-spec =
+pub close_in_spec : {M : Type 1} → statement M
+close_in_spec =
     tie.close
     (tie.spec
     (λ c. search rules)

@@ -2,8 +2,8 @@ use Rattle.std.proofs.Common.{rules, le-ltb, lt-ltb}
 use Rattle.walk.proofs.end_of.Statement.{statement}
 use Rattle.walk.proofs.end_of.Tie as tie
 
-pub end-of-spec : {M : Type 1} → statement M
-end-of-spec =
+pub end_of_spec : {M : Type 1} → statement M
+end_of_spec =
     tie.close
     (tie.spec
     (λ c κs. search rules)

@@ -1,8 +1,8 @@
 use Rattle.walk.proofs.go_if.Statement.{statement}
 use Rattle.walk.proofs.go_if.Tie as tie
 
-pub go-if-spec : {M : Type 1} → statement M
-go-if-spec =
+pub go_if_spec : {M : Type 1} → statement M
+go_if_spec =
     tie.close
     (tie.spec
     (λ c. simp c.if1.true)

@@ -2,8 +2,8 @@ use Rattle.std.proofs.Common.{rules}
 use Rattle.walk.proofs.goes_on.Statement.{statement}
 use Rattle.walk.proofs.goes_on.Tie as tie
 
-pub goes-on-spec : {M : Type 1} → statement M
-goes-on-spec =
+pub goes_on_spec : {M : Type 1} → statement M
+goes_on_spec =
     tie.close
     (tie.spec
     (λ c. search rules)

@@ -25,8 +25,8 @@ returns-2 c =
     let l = c.before.loop in
     sym (rw c.loop-test.false loop_none) ∙ l.invariant.1
 
-pub in-loop-spec : {M : Type 1} → statement M
-in-loop-spec =
+pub in_loop_spec : {M : Type 1} → statement M
+in_loop_spec =
     tie.close
     (tie.spec
     invariant-loop

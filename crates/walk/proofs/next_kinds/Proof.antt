@@ -2,8 +2,8 @@ use Rattle.std.proofs.Common.{rules}
 use Rattle.walk.proofs.next_kinds.Statement.{statement}
 use Rattle.walk.proofs.next_kinds.Tie as tie
 
-pub next-kinds-spec : {M : Type 1} → statement M
-next-kinds-spec =
+pub next_kinds_spec : {M : Type 1} → statement M
+next_kinds_spec =
     tie.close
     (tie.spec
     (λ c. search rules)

@@ -2,8 +2,8 @@ use Rattle.std.proofs.Common.{rules, le-ltb, lt-ltb}
 use Rattle.walk.proofs.open_in.Statement.{statement}
 use Rattle.walk.proofs.open_in.Tie as tie
 
-pub open-in-spec : {M : Type 1} → statement M
-open-in-spec =
+pub open_in_spec : {M : Type 1} → statement M
+open_in_spec =
     tie.close
     (tie.spec
     (λ c. search rules)

@@ -2,8 +2,8 @@ use Rattle.std.proofs.Common.{rules}
 use Rattle.walk.proofs.stand_in.Statement.{statement}
 use Rattle.walk.proofs.stand_in.Tie as tie
 
-pub stand-in-spec : {M : Type 1} → statement M
-stand-in-spec =
+pub stand_in_spec : {M : Type 1} → statement M
+stand_in_spec =
     tie.close
     (tie.spec
     (λ c. search rules)

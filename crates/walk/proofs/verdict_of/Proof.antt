@@ -2,8 +2,8 @@ use Rattle.std.proofs.Common.{rules}
 use Rattle.walk.proofs.verdict_of.Statement.{statement}
 use Rattle.walk.proofs.verdict_of.Tie as tie
 
-pub verdict-of-spec : {M : Type 1} → statement M
-verdict-of-spec =
+pub verdict_of_spec : {M : Type 1} → statement M
+verdict_of_spec =
     tie.close
     (tie.spec
     (λ c. search rules)

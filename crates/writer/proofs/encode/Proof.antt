@@ -179,8 +179,8 @@ returns-7 c =
     let g = t.before.before.before.before.before.before.before.before.before.args in
     encodes_none g.known g.instruction g.lent _ (whole_fails g.known g.instruction g.lent (some t) (sym (whole_is c.before) ∙ c.if6.false))
 
-pub encode-spec : {M : Type 1} → statement M
-encode-spec =
+pub encode_spec : {M : Type 1} → statement M
+encode_spec =
     tie.close
     (tie.spec
     (λ c κs. search rules)

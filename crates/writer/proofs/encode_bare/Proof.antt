@@ -40,8 +40,8 @@ returns-5 c =
     let g = c.before.before.before.args in
     put_failed (rw (eq-eqb _ _ c.before.before.if1.false, ne_eqb g.opcode comment_opcode c.before.if2.false) c.if4.false) refl refl
 
-pub encode-bare-spec : {M : Type 1} → statement M
-encode-bare-spec =
+pub encode_bare_spec : {M : Type 1} → statement M
+encode_bare_spec =
     tie.close
     (tie.spec
     returns

@@ -12,5 +12,5 @@ returns c = let g = c.before.args in sym (lt-leb (g.at + g.count) g.room (omega 
 returns-2 : tie.Need-returns-2
 returns-2 c = let g = c.before.args in leb_same g.count g.at g.room (omega arith)
 
-pub fits-spec : {M : Type 1} → statement M
-fits-spec = tie.close (tie.spec returns returns-2)
+pub fits_spec : {M : Type 1} → statement M
+fits_spec = tie.close (tie.spec returns returns-2)

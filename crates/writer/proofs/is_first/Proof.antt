@@ -5,5 +5,5 @@ use Rattle.writer.proofs.is_first.Tie as tie
 returns : tie.Need-returns
 returns c = rw (div-one c.args.token)
 
-pub is-first-spec : {M : Type 1} → statement M
-is-first-spec = tie.close (tie.spec returns)
+pub is_first_spec : {M : Type 1} → statement M
+is_first_spec = tie.close (tie.spec returns)

@@ -36,6 +36,6 @@ returns-2 c =
     (passed (judged g.version g.tokens.now) told.result _ (told.ensures ∙ told_whole g.version g.tokens.now 0)
     (sym c.before.before.is_refused_lem.ensures ∙ c.before.if1.false))
 
-pub is-whole-spec : {M : Type 1} → statement M
-is-whole-spec =
+pub is_whole_spec : {M : Type 1} → statement M
+is_whole_spec =
     tie.close (tie.spec (λ c κs. search rules) (λ c κs. search rules) returns (λ c κs. search rules) (λ c. search rules) returns-2)

@@ -37,8 +37,8 @@ returns-2 c =
           ∙ stored g.buffer.now (g.tokens.now ++ g.behind.now) g.at (omega (arith, long, leb-true)),
     )
 
-pub place-spec : {M : Type 1} → statement M
-place-spec =
+pub place_spec : {M : Type 1} → statement M
+place_spec =
     tie.close
     (tie.spec
     (λ c. search rules)

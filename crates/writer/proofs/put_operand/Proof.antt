@@ -88,8 +88,8 @@ returns-7 c =
     put_passed (rw (read-raw e.before, own-passed e, brings-none t, sym none.ensures ∙ not-false none.result c.before.if6.false)) (λ z. omega arith)
     (put_one g.room.now _ _ _ (one_operand (place_by g.place) g.operand (read-raw e.before) (brings-none t)) c.operand-token2.ensures)
 
-pub put-operand-spec : {M : Type 1} → statement M
-put-operand-spec =
+pub put_operand_spec : {M : Type 1} → statement M
+put_operand_spec =
     tie.close
     (tie.spec
     (λ c κs. search rules)

@@ -155,8 +155,8 @@ returns-4 c =
     put_passed (rw (all_fit a, slot-fits e, all_held a, l2.loop2.invariant) (unused_done l2.loop2.held g.t3.operands (six s) c.loop2-test.false)) (λ z. omega arith)
     (rest_none _ g.room.now l.next l.room _ (row_none l.left (drop l.held g.t3.operands) (get_or g.t3.operands predicate_slot no_operand) a.loop-test.false) l.invariant.4)
 
-pub put-row-spec : {M : Type 1} → statement M
-put-row-spec =
+pub put_row_spec : {M : Type 1} → statement M
+put_row_spec =
     tie.close
     (tie.spec
     invariant-loop

@@ -11,5 +11,5 @@ returns-2 : tie.Need-returns-2
 unfolding row_number
 returns-2 c = rw c.before.if1.false c.places-of2.ensures
 
-pub row-of-spec : {M : Type 1} → statement M
-row-of-spec = tie.close (tie.spec (λ c κs. search rules) returns (λ c κs. search rules) returns-2)
+pub row_of_spec : {M : Type 1} → statement M
+row_of_spec = tie.close (tie.spec (λ c κs. search rules) returns (λ c κs. search rules) returns-2)

@@ -25,8 +25,8 @@ returns-2 c =
     let placed = c.before.before.place.ensures in
     rw (encoded.passes some, encoded.stands some g.body.now refl) (placed.0, rw placed.0 at placed.1)
 
-pub write-known-spec : {M : Type 1} → statement M
-write-known-spec =
+pub write_known_spec : {M : Type 1} → statement M
+write_known_spec =
     tie.close
     (tie.spec
     (λ c. search rules)

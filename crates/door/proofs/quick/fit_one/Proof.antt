@@ -16,5 +16,5 @@ returns c h =
 returns-2 : tie.Need-returns-2
 returns-2 c h = never h
 
-pub fit-one-spec : {M : Type 1} → statement M
-fit-one-spec = tie.close (tie.spec (λ c κs. search rules) (λ c κs. search rules) returns returns-2)
+pub fit_one_spec : {M : Type 1} → statement M
+fit_one_spec = tie.close (tie.spec (λ c κs. search rules) (λ c κs. search rules) returns returns-2)

@@ -12,5 +12,5 @@ returns c h =
 returns-2 : tie.Need-returns-2
 returns-2 c h = never h
 
-pub fit-sampled-spec : {M : Type 1} → statement M
-fit-sampled-spec = tie.close (tie.spec (λ c κs. search rules) (λ c κs. search rules) returns returns-2)
+pub fit_sampled_spec : {M : Type 1} → statement M
+fit_sampled_spec = tie.close (tie.spec (λ c κs. search rules) (λ c κs. search rules) returns returns-2)

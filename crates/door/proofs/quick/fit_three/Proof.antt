@@ -15,5 +15,5 @@ returns c h =
 returns-2 : tie.Need-returns-2
 returns-2 c h = never h
 
-pub fit-three-spec : {M : Type 1} → statement M
-fit-three-spec = tie.close (tie.spec (λ c κs. search rules) (λ c κs. search rules) returns returns-2)
+pub fit_three_spec : {M : Type 1} → statement M
+fit_three_spec = tie.close (tie.spec (λ c κs. search rules) (λ c κs. search rules) returns returns-2)

@@ -15,5 +15,5 @@ returns c h =
 returns-2 : tie.Need-returns-2
 returns-2 c h = never h
 
-pub fit-two-spec : {M : Type 1} → statement M
-fit-two-spec = tie.close (tie.spec (λ c κs. search rules) (λ c κs. search rules) returns returns-2)
+pub fit_two_spec : {M : Type 1} → statement M
+fit_two_spec = tie.close (tie.spec (λ c κs. search rules) (λ c κs. search rules) returns returns-2)

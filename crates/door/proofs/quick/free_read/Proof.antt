@@ -16,5 +16,5 @@ returns-2 : tie.Need-returns-2
 unfolding free_read
 returns-2 c = rw (sym c.before.read_laid_lem.ensures ∙ c.if1.false)
 
-pub free-read-spec : {M : Type 1} → statement M
-free-read-spec = tie.close (tie.spec (λ c κs. search rules) (λ c κs. search rules) (λ c κs. search rules) returns returns-2)
+pub free_read_spec : {M : Type 1} → statement M
+free_read_spec = tie.close (tie.spec (λ c κs. search rules) (λ c κs. search rules) (λ c κs. search rules) returns returns-2)

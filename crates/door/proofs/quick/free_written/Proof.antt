@@ -16,5 +16,5 @@ returns-2 : tie.Need-returns-2
 unfolding free_written
 returns-2 c = rw (sym c.before.written_laid_lem.ensures ∙ c.if1.false)
 
-pub free-written-spec : {M : Type 1} → statement M
-free-written-spec = tie.close (tie.spec (λ c κs. search rules) (λ c κs. search rules) (λ c κs. search rules) returns returns-2)
+pub free_written_spec : {M : Type 1} → statement M
+free_written_spec = tie.close (tie.spec (λ c κs. search rules) (λ c κs. search rules) (λ c κs. search rules) returns returns-2)

@@ -15,5 +15,5 @@ returns c h type e =
 returns-2 : tie.Need-returns-2
 returns-2 c h = never h
 
-pub one-read-spec : {M : Type 1} → statement M
-one-read-spec = tie.close (tie.spec (λ c κs. search rules) (λ c κs. search rules) (λ c. search rules) (λ c. search rules) returns returns-2)
+pub one_read_spec : {M : Type 1} → statement M
+one_read_spec = tie.close (tie.spec (λ c κs. search rules) (λ c κs. search rules) (λ c. search rules) (λ c. search rules) returns returns-2)

@@ -13,5 +13,5 @@ returns-2 : tie.Need-returns-2
 unfolding read_laid holds
 returns-2 c = rw (eq-eqb _ _ c.if1.false)
 
-pub read-laid-spec : {M : Type 1} → statement M
-read-laid-spec = tie.close (tie.spec returns (λ c. search rules) returns-2)
+pub read_laid_spec : {M : Type 1} → statement M
+read_laid_spec = tie.close (tie.spec returns (λ c. search rules) returns-2)

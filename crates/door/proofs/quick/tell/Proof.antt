@@ -40,8 +40,8 @@ returns-4 c some left =
     exact
     (c.tell-operands.ensures some)
 
-pub tell-spec : {M : Type 1} → statement M
-tell-spec =
+pub tell_spec : {M : Type 1} → statement M
+tell_spec =
     tie.close
     (tie.spec
     (λ c. search rules)

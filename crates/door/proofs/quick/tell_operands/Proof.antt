@@ -80,8 +80,8 @@ returns-7 c some =
     (told.1 ∙ ap (λ size. yes_number size 1 % 2 ^ 64) c.before.size_in.ensures ∙ mod-eq_of_lt (omega arith))
     (λ type p. c.before.before.one_written.ensures told.0 type (c.before.before.before.before.first-in2.ensures ∙ p))
 
-pub tell-operands-spec : {M : Type 1} → statement M
-tell-operands-spec =
+pub tell_operands_spec : {M : Type 1} → statement M
+tell_operands_spec =
     tie.close
     (tie.spec
     (λ c κs. search rules)

@@ -11,5 +11,5 @@ returns-2 : tie.Need-returns-2
 unfolding written_laid
 returns-2 c = rw c.if1.false
 
-pub written-laid-spec : {M : Type 1} → statement M
-written-laid-spec = tie.close (tie.spec (λ c κs. search rules) returns returns-2)
+pub written_laid_spec : {M : Type 1} → statement M
+written_laid_spec = tie.close (tie.spec (λ c κs. search rules) returns returns-2)

@@ -11,8 +11,8 @@ decreases-loop places tokens instruction position left₀ at₀ operand₀ left 
 loop-less : tie.Need-loop-smaller invariant-loop decreases-loop
 loop-less c = omega arith
 
-pub operand-at-spec : {M : Type 1} → statement M
-operand-at-spec =
+pub operand_at_spec : {M : Type 1} → statement M
+operand_at_spec =
     tie.close
     (tie.spec
     invariant-loop

@@ -14,8 +14,8 @@ sub-left c = omega arith
 loop-less : tie.Need-loop-smaller invariant-loop decreases-loop
 loop-less c = omega arith
 
-pub refused-instruction-spec : {M : Type 1} → statement M
-refused-instruction-spec =
+pub refused_instruction_spec : {M : Type 1} → statement M
+refused_instruction_spec =
     tie.close
     (tie.spec
     invariant-loop

@@ -19,8 +19,8 @@ returns-2 c = prefix_len_of_le _ _ (omega arith)
 returns-3 : tie.Need-returns-3 invariant-loop decreases-loop
 returns-3 c = prefix_len_of_le _ _ (omega arith)
 
-pub read-input-spec : {M : Type 1} → statement M
-read-input-spec =
+pub read_input_spec : {M : Type 1} → statement M
+read_input_spec =
     tie.close
     (tie.spec
     invariant-loop

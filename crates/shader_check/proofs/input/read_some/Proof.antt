@@ -9,8 +9,8 @@ invariant-loop room₀ tries₀ room tries = length room ≡ length room₀
 abbrev decreases-loop : tie.decreases-loop
 decreases-loop room₀ tries₀ room tries = tries
 
-pub read-some-spec : {M : Type 1} → statement M
-read-some-spec =
+pub read_some_spec : {M : Type 1} → statement M
+read_some_spec =
     tie.close
     (tie.spec
     invariant-loop

@@ -1,0 +1,17 @@
+use Prim.Native.Nat.{suc, ◌+◌, ◌≤◌, ◌-◌}
+use mathlib.Core.Path.{◌≡◌}
+use native.Mathlib.Nat.{add-zero}
+use native.Mathlib.Omega.{arith}
+use lib.ListN.{length, take, drop, drop_of_length-le}
+use lib.Seq.{sets}
+use borrow.Author.Rules.{rules}
+use Rattle.lists.proofs.Stores.{one_before, part_length}
+use Rattle.splicer.proofs.Moving.{unreached}
+use Rattle.splicer.proofs.move_up.Given as goal
+
+abbrev pub invariant-loop-left : goal.invariant-loop-left
+invariant-loop-left l =
+    (l.left ≤ l.count) × (length l.buffer ≡ length l.initial.buffer) × (l.buffer ≡ sets l.initial.buffer (l.to + l.left) (drop l.left (take l.count (drop l.from l.initial.buffer))))
+
+abbrev pub decreases-loop-left : goal.decreases-loop-left
+decreases-loop-left l = l.left

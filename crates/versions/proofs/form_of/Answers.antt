@@ -1,0 +1,6 @@
+use borrow.Author.Rules.{rules}
+use Rattle.versions.proofs.Types.{type_small}
+use Rattle.versions.proofs.form_of.Goals as goal
+
+pub returns : goal.returns
+returns c = rw c.type_of-kind.ensures.is (c.told_of-row.ensures.forms _ (type_small c.args.token))

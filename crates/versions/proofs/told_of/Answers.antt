@@ -1,0 +1,6 @@
+use borrow.Author.Rules.{rules}
+use Rattle.versions.proofs.Rows.{tells}
+use Rattle.versions.proofs.told_of.Goals as goal
+
+pub returns : goal.returns
+returns c = rw c.row_of.ensures (tells c.args.version)

@@ -1,0 +1,7 @@
+use Rattle.versions.specs.Sets.{holds}
+use borrow.Author.Rules.{rules}
+use Rattle.versions.proofs.type_in.Goals as goal
+
+pub returns : goal.returns
+unfolding holds
+returns c = rw c.type_of-kind.ensures.is
