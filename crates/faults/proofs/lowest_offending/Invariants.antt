@@ -1,0 +1,15 @@
+use mathlib.Core.Path.{◌≡◌, refl, sym, ◌∙◌}
+use Prim.Native.Nat.{◌+◌, ◌-◌, ◌≤◌}
+use native.Mathlib.Omega.{arith}
+use Rattle.paper.specs.Faults.{lowest_from, lowest}
+use Rattle.versions.specs.Sets.{holds}
+use Rattle.faults.specs.BySets.{offends_in}
+use Rattle.faults.proofs.FaultAt.{lowest_here, lowest_on, lowest_none}
+use Rattle.faults.proofs.lowest_offending.Given as goal
+
+abbrev pub invariant-loop-bit : goal.invariant-loop-bit
+invariant-loop-bit l =
+    (l.bit ≤ 31) × (lowest_from (offends_in l.zeros l.fields l.token) l.bit (31 - l.bit) ≡ lowest (offends_in l.zeros l.fields l.token))
+
+abbrev pub decreases-loop-bit : goal.decreases-loop-bit
+decreases-loop-bit l = 31 - l.bit

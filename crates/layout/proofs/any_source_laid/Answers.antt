@@ -1,0 +1,20 @@
+use mathlib.Core.Path.{sym, ◌∙◌}
+use borrow.Author.Tests.{eq-eqb, ne_eqb}
+use borrow.Author.Rules.{rules}
+use Rattle.layout.proofs.any_source_laid.Goals as goal
+
+pub returns-then-token-eq0 : goal.returns-then-token-eq0
+returns-then-token-eq0 c = sym (simp (sym c.read_laid.ensures ∙ c.if-read_laid.true, eq-eqb _ _ c.if-token-eq0.true))
+
+pub returns-then-read_laid : goal.returns-then-read_laid
+returns-then-read_laid c =
+    sym
+    (simp (
+      sym c.read_laid.ensures ∙ c.if-read_laid.true,
+      ne_eqb _ _ c.if-token-eq0.false,
+      c.relative_sources-relative.ensures,
+      c.marked_sources-marked.ensures,
+    ))
+
+pub returns : goal.returns
+returns c = sym (simp (sym c.read_laid.ensures ∙ c.if-read_laid.false))

@@ -1,0 +1,14 @@
+use mathlib.Core.Path.{sym, ◌∙◌}
+use Rattle.paper.specs.Places.{free}
+use Rattle.tokens.proofs.TokenAt.{plain_destination_laid}
+use borrow.Author.Rules.{rules}
+use Rattle.tokens.proofs.good_written.Goals as goal
+
+pub returns-then-plain_destination : goal.returns-then-plain_destination
+returns-then-plain_destination c = rw (c.type_in.ensures, plain_destination_laid _ free _ (sym c.plain_destination.ensures ∙ c.if-plain_destination.true))
+
+pub returns-then-free_destination_laid : goal.returns-then-free_destination_laid
+returns-then-free_destination_laid c = rw (c.type_in-then-free_destination_laid.ensures, sym c.free_destination_laid.ensures ∙ c.if-free_destination_laid.true)
+
+pub returns : goal.returns
+returns c = rw (sym c.free_destination_laid.ensures ∙ c.if-free_destination_laid.false)
