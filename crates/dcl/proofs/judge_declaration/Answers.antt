@@ -13,15 +13,15 @@ returns-then-not-destination_laid c =
     let d = c.before.before.before in
     c.refused-then-not-destination_laid.ensures
     ∙ rw c.declaration_fault.ensures
-    (sym (destination_fault _ _ d.if-behind-lt2.false (sym d.destination_laid.ensures ∙ not-true _ c.if-not-destination_laid.true)))
+    (sym (destination_fault _ _ d.if-behind-lt2.false (sym d.destination_laid.ensures ∙ c.if-not-destination_laid.true)))
 
 pub returns-then-not-is_declared : goal.returns-then-not-is_declared
 returns-then-not-is_declared c =
     let d = c.before.before.before.before in
     c.refused-then-not-is_declared.ensures
     ∙ sym
-    (destination_type _ _ d.if-behind-lt2.false (sym d.destination_laid.ensures ∙ not-false _ c.if-not-destination_laid.false)
-    (sym c.is_declared.ensures ∙ not-true _ c.if-not-is_declared.true))
+    (destination_type _ _ d.if-behind-lt2.false (sym d.destination_laid.ensures ∙ c.if-not-destination_laid.false)
+    (sym c.is_declared.ensures ∙ c.if-not-is_declared.true))
 
 pub returns-then-not-usage_laid : goal.returns-then-not-usage_laid
 returns-then-not-usage_laid c =
@@ -30,9 +30,9 @@ returns-then-not-usage_laid c =
     c.refused-then-not-usage_laid.ensures
     ∙ rw c.declaration_fault-then-not-usage_laid.ensures
     (sym
-    (usage_refused _ _ d.if-behind-lt2.false (sym d.destination_laid.ensures ∙ not-false _ t.if-not-destination_laid.false)
-    (sym t.is_declared.ensures ∙ not-false _ c.if-not-is_declared.false)
-    (sym c.usage_laid.ensures ∙ not-true _ c.if-not-usage_laid.true)))
+    (usage_refused _ _ d.if-behind-lt2.false (sym d.destination_laid.ensures ∙ t.if-not-destination_laid.false)
+    (sym t.is_declared.ensures ∙ c.if-not-is_declared.false)
+    (sym c.usage_laid.ensures ∙ c.if-not-usage_laid.true)))
 
 pub returns-then-behind-eq2 : goal.returns-then-behind-eq2
 returns-then-behind-eq2 c =
@@ -41,8 +41,8 @@ returns-then-behind-eq2 c =
     let d = t.before.before in
     ap operands_number
     (sym
-    ((then_rest _ _ d.if-behind-lt2.false (sym d.destination_laid.ensures ∙ not-false _ t.if-not-destination_laid.false) (sym t.is_declared.ensures ∙ not-false _ u.if-not-is_declared.false)
-    (sym u.usage_laid.ensures ∙ not-false _ c.if-not-usage_laid.false)).0 c.if-behind-eq2.true))
+    ((then_rest _ _ d.if-behind-lt2.false (sym d.destination_laid.ensures ∙ t.if-not-destination_laid.false) (sym t.is_declared.ensures ∙ u.if-not-is_declared.false)
+    (sym u.usage_laid.ensures ∙ c.if-not-usage_laid.false)).0 c.if-behind-eq2.true))
 
 pub returns : goal.returns
 returns c =
@@ -52,5 +52,5 @@ returns c =
     c.refused-2.ensures
     ∙ ap operands_number
     (sym
-    ((then_rest _ _ d.if-behind-lt2.false (sym d.destination_laid.ensures ∙ not-false _ t.if-not-destination_laid.false) (sym t.is_declared.ensures ∙ not-false _ u.if-not-is_declared.false)
-    (sym u.usage_laid.ensures ∙ not-false _ c.if-not-usage_laid.false)).1 c.if-behind-eq2.false))
+    ((then_rest _ _ d.if-behind-lt2.false (sym d.destination_laid.ensures ∙ t.if-not-destination_laid.false) (sym t.is_declared.ensures ∙ u.if-not-is_declared.false)
+    (sym u.usage_laid.ensures ∙ c.if-not-usage_laid.false)).1 c.if-behind-eq2.false))

@@ -21,18 +21,18 @@ returns-then-is_refused c =
     let s = c.before.before.before in
     let g = s.args in
     let l = s.loop-left in
-    let odd = taken_odd (operand g.version (place_by (l.false % 128)) (l.at + 1) (drop l.at g.behind.now)) _ c.take_operand-taken.ensures (sym c.is_refused.ensures ∙ c.if-is_refused.true) in
+    let odd = taken_odd (operand g.version (place_by (l.left % 128)) (l.at + 1) (drop l.at g.behind.now)) _ c.take_operand-taken.ensures (sym c.is_refused.ensures ∙ c.if-is_refused.true) in
     odd.2
     ∙ ap operands_number
-    (sym (operands_refused g.version l.false l.at g.behind.now (omega arith) s.loop-left-test.true _ odd.1) ∙ l.invariant.3)
+    (sym (operands_refused g.version l.left l.at g.behind.now (omega arith) s.loop-left-test.true _ odd.1) ∙ l.invariant.3)
 
 pub overflow_add-at : goal.overflow_add-at
 overflow_add-at c =
     let s = c.before.before.before.before in
     let g = s.args in
     let l = s.loop-left in
-    let took = taken_even (operand g.version (place_by (l.false % 128)) (l.at + 1) (drop l.at g.behind.now)) _ c.take_operand-taken.ensures (sym c.is_refused.ensures ∙ c.if-is_refused.false) in
-    let within = operand_within g.version (place_by (l.false % 128)) (l.at + 1) _ l.at g.behind.now l.invariant.0 took in
+    let took = taken_even (operand g.version (place_by (l.left % 128)) (l.at + 1) (drop l.at g.behind.now)) _ c.take_operand-taken.ensures (sym c.is_refused.ensures ∙ c.if-is_refused.false) in
+    let within = operand_within g.version (place_by (l.left % 128)) (l.at + 1) _ l.at g.behind.now l.invariant.0 took in
     omega arith
 
 pub loop-left-smaller : goal.loop-left-smaller
@@ -43,14 +43,14 @@ loop-left-preserved c =
     let s = c.before.before.before.before in
     let g = s.args in
     let l = s.loop-left in
-    let took = taken_even (operand g.version (place_by (l.false % 128)) (l.at + 1) (drop l.at g.behind.now)) _ c.take_operand-taken.ensures (sym c.is_refused.ensures ∙ c.if-is_refused.false) in
-    let within = operand_within g.version (place_by (l.false % 128)) (l.at + 1) _ l.at g.behind.now l.invariant.0 took in
-    let few = operand_few g.version (place_by (l.false % 128)) (l.at + 1) _ (drop l.at g.behind.now) took in
-    let less = decoded_less l.false (omega arith) s.loop-left-test.true in (
+    let took = taken_even (operand g.version (place_by (l.left % 128)) (l.at + 1) (drop l.at g.behind.now)) _ c.take_operand-taken.ensures (sym c.is_refused.ensures ∙ c.if-is_refused.false) in
+    let within = operand_within g.version (place_by (l.left % 128)) (l.at + 1) _ l.at g.behind.now l.invariant.0 took in
+    let few = operand_few g.version (place_by (l.left % 128)) (l.at + 1) _ (drop l.at g.behind.now) took in
+    let less = decoded_less l.left (omega arith) s.loop-left-test.true in (
       omega arith,
       omega arith,
       omega arith,
-      rw c.taken_of-at.ensures (operands_on g.version l.false l.at g.behind.now (omega arith) s.loop-left-test.true _ took ∙ l.invariant.3),
+      rw c.taken_of-at.ensures (operands_on g.version l.left l.at g.behind.now (omega arith) s.loop-left-test.true _ took ∙ l.invariant.3),
     )
 
 pub returns-then-at-size : goal.returns-then-at-size
@@ -58,7 +58,7 @@ returns-then-at-size c =
     let g = c.args in
     let l = c.loop-left in
     ap operands_number
-    (sym (operands_fit g.version l.false (l.at + 1) l.at g.behind.now c.loop-left-test.false c.if-at-size.true) ∙ l.invariant.3)
+    (sym (operands_fit g.version l.left (l.at + 1) l.at g.behind.now c.loop-left-test.false c.if-at-size.true) ∙ l.invariant.3)
 
 pub returns : goal.returns
 returns c =
@@ -66,4 +66,4 @@ returns c =
     let l = c.loop-left in
     c.refused.ensures
     ∙ ap operands_number
-    (sym (operands_over g.version l.false (l.at + 1) l.at g.behind.now c.loop-left-test.false l.invariant.0 c.if-at-size.false) ∙ l.invariant.3)
+    (sym (operands_over g.version l.left (l.at + 1) l.at g.behind.now c.loop-left-test.false l.invariant.0 c.if-at-size.false) ∙ l.invariant.3)
