@@ -1,0 +1,5 @@
+use borrow.Author.Rules.{rules}
+use Rattle.records.proofs.empty_record.Goals as goal
+
+pub returns : goal.returns
+returns c = rw c.no_operand-none.ensures
