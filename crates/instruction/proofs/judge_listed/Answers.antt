@@ -19,20 +19,20 @@ returns-then-shown-size c = rw (lt-leb _ _ c.if-shown-size.true) c.refused_first
 
 pub slice_bounds-judge_claimed-end : goal.slice_bounds-judge_claimed-end
 slice_bounds-judge_claimed-end c =
-    let g = c.before.before.before.args in
-    sym (length-take-le _ g.behind.now c.shared_slice_known-1.false)
+    let g = c.args in
+    sym (length-take-le _ g.behind.now c.if-shown-size.false)
 
 pub returns-then-told-eq-FIT : goal.returns-then-told-eq-FIT
 returns-then-told-eq-FIT c =
-    let g = c.before.before.before.before.before.before.before.args in
-    rw (le-leb _ _ c.shared_slice_known-1.false)
+    let g = c.args in
+    rw (le-leb _ _ c.if-shown-size.false)
     (c.yes.ensures
-    ∙ ap (λ k. yes_number g.claim k % 2 ^ 64) (c.class_in.ensures ∙ c.before.before.before.before.before.before.before.requires.0)
-    ∙ yes_fits g.claim (class_of (opcode_of g.first)) (omega (arith, c.before.before.before.before.before.before.before.requires.1))
+    ∙ ap (λ k. yes_number g.claim k % 2 ^ 64) (c.class_in.ensures ∙ c.requires.0)
+    ∙ yes_fits g.claim (class_of (opcode_of g.first)) (omega (arith, c.requires.1))
     ∙ sym (operands_number_lem (operands_of g.version (opcode_of g.first) (places_in g.shape g.first) (take g.claim g.behind.now)) _ _ (class_of (opcode_of g.first)) c.judge_claimed-told.ensures c.if-told-eq-FIT.true))
 
 pub returns : goal.returns
 returns c =
-    let g = c.before.before.before.before.before.args in
-    rw (le-leb _ _ c.shared_slice_known-1.false)
+    let g = c.args in
+    rw (le-leb _ _ c.if-shown-size.false)
     (sym (operands_refused_number (operands_of g.version (opcode_of g.first) (places_in g.shape g.first) (take g.claim g.behind.now)) _ _ (class_of (opcode_of g.first)) c.judge_claimed-told.ensures c.if-told-eq-FIT.false))

@@ -12,10 +12,9 @@ use Rattle.instruction.proofs.judge_unlisted.Goals as goal
 pub returns-then-are_there : goal.returns-then-are_there
 unfolding unlisted_in
 returns-then-are_there c =
-    let d = c.before.before.before.before.before in
     rw (
-      eq-eqb _ _ (sym d.opcode_of-opcode.ensures ∙ d.if-opcode-eq-COMMENT.true),
-      sym d.comment_laid.ensures ∙ c.if-comment_laid.true,
+      eq-eqb _ _ (sym c.opcode_of-opcode.ensures ∙ c.if-opcode-eq-COMMENT.true),
+      sym c.comment_laid.ensures ∙ c.if-comment_laid.true,
       ← c.comment_length-length.ensures,
       sym c.are_there.ensures ∙ c.if-are_there.true,
     )
@@ -24,10 +23,9 @@ returns-then-are_there c =
 pub returns-then-comment_laid : goal.returns-then-comment_laid
 unfolding unlisted_in
 returns-then-comment_laid c =
-    let d = c.before.before.before.before.before in
     rw (
-      eq-eqb _ _ (sym d.opcode_of-opcode.ensures ∙ d.if-opcode-eq-COMMENT.true),
-      sym d.comment_laid.ensures ∙ c.if-comment_laid.true,
+      eq-eqb _ _ (sym c.opcode_of-opcode.ensures ∙ c.if-opcode-eq-COMMENT.true),
+      sym c.comment_laid.ensures ∙ c.if-comment_laid.true,
       ← c.comment_length-length.ensures,
       sym c.are_there.ensures ∙ c.if-are_there.false,
     )
@@ -36,10 +34,9 @@ returns-then-comment_laid c =
 pub returns-then-opcode-eq-COMMENT : goal.returns-then-opcode-eq-COMMENT
 unfolding unlisted_in
 returns-then-opcode-eq-COMMENT c =
-    let d = c.before.before in
     rw (
-      eq-eqb _ _ (sym d.opcode_of-opcode.ensures ∙ d.if-opcode-eq-COMMENT.true),
-      sym d.comment_laid.ensures ∙ c.if-comment_laid.false,
+      eq-eqb _ _ (sym c.opcode_of-opcode.ensures ∙ c.if-opcode-eq-COMMENT.true),
+      sym c.comment_laid.ensures ∙ c.if-comment_laid.false,
     )
     c.refused_first-then-opcode-eq-COMMENT.ensures
 

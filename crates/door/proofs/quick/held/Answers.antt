@@ -1,0 +1,7 @@
+use Rattle.versions.specs.Sets.{holds}
+use borrow.Author.Rules.{rules}
+use Rattle.door.proofs.quick.held.Goals as goal
+
+pub returns : goal.returns
+unfolding holds
+returns c = rw c.spot_of.ensures.0
