@@ -1,5 +1,5 @@
 -- How many tokens an operand takes, by the tests of its tokens.
-use Prim.Native.Nat.{ℕ, suc, ◌+◌, ◌/◌, ◌^◌, ◌<◌, ◌≤◌}
+use Prim.Native.Nat.{ℕ, suc, ◌+◌, ◌-◌, ◌/◌, ◌^◌, ◌<◌, ◌≤◌}
 use mathlib.Core.Path.{◌≡◌, refl, sym, ap, ◌∙◌}
 use mathlib.Core.Bool.{Bool, true, false, not, ◌&&◌, ◌||◌}
 use mathlib.Core.List.{List, [], ◌∷◌}
@@ -242,3 +242,10 @@ fit_end v offset at behind h = by (eqb at (length behind)) refl
     by : (b : Bool) → eqb at (length behind) ≡ b → is_fit (left_over (drop at behind)) ≡ b
     by true e = let same = eqb-true at (length behind) e in rw (drop_of_length-le behind {i = at} (omega arith)) refl
     by false e = let other = eqb-false at (length behind) e in rw (drop-cons behind at 0 (omega arith)) refl
+
+-- the operands that are left fit exactly if all do
+abbrev pub Left : Version → ℕ → ℕ → ℕ → List ℕ → ℕ → ℕ → Type 0
+Left v count written read behind at left =
+    (d s : Types) → Meant v (destination d) written → Meant v (source s) read →
+    (at ≤ length behind) ×
+    (is_fit (operands v (sources (left - 1) s) (1 + at) (drop at behind)) ≡ is_fit (operands v (destination d ∷ sources (count - 1) s) 1 behind))

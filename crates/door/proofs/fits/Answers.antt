@@ -10,15 +10,8 @@ use Rattle.paper.specs.declared.Version.{Version}
 use Rattle.operands.proofs.OperandAt.{operand_none, operand_within}
 use Rattle.uniform.specs.Uniform.{sources}
 use Rattle.door.specs.Door.{took_in, is_fit, Meant}
-use Rattle.door.proofs.Taking.{fit_refused, taken_is, fit_taken, sources_step, fit_end}
+use Rattle.door.proofs.Taking.{Left, fit_refused, taken_is, fit_taken, sources_step, fit_end}
 use Rattle.door.proofs.fits.Goals as goal
-
--- the operands that are left fit exactly if all do
-abbrev Left : Version → ℕ → ℕ → ℕ → List ℕ → ℕ → ℕ → Type 0
-Left v count written read behind at left =
-    (d s : Types) → Meant v (destination d) written → Meant v (source s) read →
-    (at ≤ length behind) ×
-    (is_fit (operands v (sources (left - 1) s) (1 + at) (drop at behind)) ≡ is_fit (operands v (destination d ∷ sources (count - 1) s) 1 behind))
 
 pub returns-then-behind-eq0 : goal.returns-then-behind-eq0
 returns-then-behind-eq0 c d s md ms =

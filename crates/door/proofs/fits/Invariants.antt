@@ -10,7 +10,7 @@ use Rattle.paper.specs.declared.Version.{Version}
 use Rattle.operands.proofs.OperandAt.{operand_none, operand_within}
 use Rattle.uniform.specs.Uniform.{sources}
 use Rattle.door.specs.Door.{took_in, is_fit, Meant}
-use Rattle.door.proofs.Taking.{fit_refused, taken_is, fit_taken, sources_step, fit_end}
+use Rattle.door.proofs.Taking.{Left}
 use Rattle.door.proofs.fits.Given as goal
 
 abbrev pub invariant-loop-left : goal.invariant-loop-left
