@@ -1,0 +1,29 @@
+use mathlib.Core.Path.{sym, ◌∙◌}
+use native.Mathlib.Omega.{arith}
+use Rattle.editor.proofs.Answers.{too_long, no_room, has_room_lem}
+use borrow.Author.Rules.{rules}
+use Rattle.editor.proofs.edit_placed.Goals as goal
+
+pub returns-then-kept-run : goal.returns-then-kept-run
+returns-then-kept-run c =
+    let g = c.args in
+    let b = c.requires.0 in
+    let o = b.order in
+    let i = b.inside in
+    c.refused.ensures ∙ sym (too_long g.version g.old.now g.room g.first.at g.last.at g.run.now (omega arith))
+
+pub returns-then-room-kept : goal.returns-then-room-kept
+returns-then-room-kept c =
+    let g = c.args in
+    let b = c.requires.0 in
+    let o = b.order in
+    let i = b.inside in
+    c.refused-then-room-kept.ensures ∙ sym (no_room g.version g.old.now g.room g.first.at g.last.at g.run.now (omega arith))
+
+pub returns : goal.returns
+returns c =
+    let g = c.args in
+    let b = c.requires.0 in
+    let o = b.order in
+    let i = b.inside in
+    c.walk_spliced.ensures ∙ sym (has_room_lem g.version g.old.now g.room g.first.at g.last.at g.run.now (omega arith) (omega arith))

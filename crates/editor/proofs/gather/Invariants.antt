@@ -1,0 +1,17 @@
+use Prim.Native.Nat.{◌+◌, ◌-◌, ◌≤◌}
+use mathlib.Core.Path.{◌≡◌, refl, sym, ◌∙◌}
+use native.Mathlib.Omega.{arith}
+use lib.ListN.{length, take, drop}
+use lib.Seq.{sets}
+use Rattle.editor.specs.Steps.{behind_run}
+use Rattle.editor.proofs.Tokens.{behind_length}
+use borrow.Author.Rules.{rules}
+use Rattle.lists.proofs.Stores.{one_behind, all_behind, part_length, part_at, front_stored}
+use Rattle.editor.proofs.gather.Given as goal
+
+abbrev pub invariant-loop-k : goal.invariant-loop-k
+invariant-loop-k l =
+    (l.k ≤ l.n) × (length l.window ≡ length l.initial.window) × (l.window ≡ sets l.initial.window 0 (take l.k (take l.n (drop l.from (behind_run l.run l.old l.j)))))
+
+abbrev pub decreases-loop-k : goal.decreases-loop-k
+decreases-loop-k l = l.n - l.k
