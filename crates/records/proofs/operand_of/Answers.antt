@@ -1,6 +1,5 @@
 use mathlib.Core.Path.{sym, ◌∙◌}
 use Rattle.records.specs.Record.{operand_of}
-use borrow.Author.Rules.{rules}
 use Rattle.records.proofs.operand_of.Goals as goal
 
 pub returns-then-is_raw : goal.returns-then-is_raw

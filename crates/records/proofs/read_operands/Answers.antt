@@ -1,92 +1,56 @@
-use mathlib.Core.Path.{◌≡◌}
-use mathlib.Core.List.{[], ◌∷◌, ◌++◌}
-use Prim.Native.Nat.{◌/◌, ◌%◌}
+use mathlib.Core.Path.{◌≡◌, sym}
+use mathlib.Core.Bool.{Bool}
+use mathlib.Core.List.{List, [], ◌∷◌, ◌++◌}
+use Prim.Native.Nat.{ℕ, suc, ◌+◌, ◌/◌, ◌%◌, ◌^◌, ◌<◌, ◌≤◌}
 use native.Mathlib.Omega.{arith}
-use lib.ListN.{drop}
-use borrow.Author.Rules.{rules}
+use lib.ListN.{length, drop}
+use Rattle.std.proofs.Common.{append_assoc}
 use Rattle.paper.specs.InstructionToken.{with_predicate}
+use Rattle.paper.specs.Notation.{pick}
+use Rattle.paper.specs.Places.{predicate}
 use Rattle.places.specs.Places.{place_by, decoded}
-use Rattle.records.specs.Record.{width_at, in_order, padded, array_of}
+use Rattle.records.specs.declared.Operand.{Operand}
+use Rattle.records.specs.Record.{width_at, operand_at, in_order, padded, array_of, no_operand}
+use Rattle.records.specs.ByClass.{Readable}
 use Rattle.records.proofs.Filled.{Left, none_left, first_there, next_left, first_read, no_row_lem, opening_there, predicate_there, rest_left, row_read}
 use Rattle.records.proofs.read_operands.Goals as goal
 
--- the place behind the first operand
-next-0 : (f : goal.After-read_operand-first) →
-    let g = f.args in f.read_operand-first.result.next ≡ width_at (place_by (g.row % 128)) g.behind.now
-next-0 f = omega (arith, f.read_operand-first.ensures.1)
+-- what is known where some operands are read: the row that is left from a place of the tokens on, and the array so far
+record Taken (row : ℕ) (predicated : Bool) (behind : List ℕ) (operands : List Operand) (room : ℕ) (p : Operand) (left at : ℕ) : Type 0 where
+  rest : Left left at behind
+  array : array_of (with_predicate predicated (decoded row)) behind ≡ operands ++ (padded room (in_order (decoded left) (drop at behind)) ++ (p ∷ []))
 
--- what is left of the row behind it and the predicate's, behind the second operand, and so on
-left-1 : (r : goal.After-read_predicate-predicate) →
-    let g = r.args in Left (g.row / 128) r.read_predicate-predicate.result.next g.behind.now
-left-1 r =
-    let g = r.args in
-    rw (r.read_predicate-predicate.ensures.1, next-0 r.before)
-    (rest_left g.row g.predicated g.behind.now (omega arith) r.requires r.if-row-eq0.false)
+-- the first operand and the predicate's
+begun : (row : ℕ) (predicated : Bool) (behind : List ℕ) (a p : Operand) (next at : ℕ) →
+    row < 2 ^ 64 → Readable predicated (decoded row) behind → (row ≡ 0 → ⊥) →
+    (a ≡ operand_at (place_by (row % 128)) behind) × (next ≡ 0 + width_at (place_by (row % 128)) behind) →
+    (p ≡ pick predicated (operand_at predicate (drop next behind)) no_operand) × (at ≡ next + pick predicated 1 0) →
+    Taken row predicated behind (a ∷ []) 4 p (row / 128) at
+begun row predicated behind a p next at fits r some first second =
+    let on : next ≡ width_at (place_by (row % 128)) behind = omega (arith, first.1) in
+    record {
+      rest = rw (second.1, on) (rest_left row predicated behind fits r some);
+      array = rw (second.1, second.0, on, first.0) (row_read row predicated behind fits r some);
+    }
 
-left-2 : (s : goal.After-read_operand-second) →
-    let g = s.args in Left (g.row / 128 / 128) s.read_operand-second.result.next g.behind.now
-left-2 s =
-    let r = s.before.before in
-    let g = r.args in
-    next_left (g.row / 128) r.read_predicate-predicate.result.next g.behind.now (left-1 r) s.if-left-eq0.false _ s.read_operand-second.ensures.1
+module _ {row : ℕ} {predicated : Bool} {behind : List ℕ} {operands : List Operand} {room : ℕ} {p : Operand} {left at : ℕ} where
+  -- one operand more
+  onward : Taken row predicated behind operands (suc room) p left at → (left ≡ 0 → ⊥) → (operand : Operand) (next : ℕ) →
+      (operand ≡ operand_at (place_by (left % 128)) (drop at behind)) × (next ≡ at + width_at (place_by (left % 128)) (drop at behind)) →
+      Taken row predicated behind (operands ++ (operand ∷ [])) room p (left / 128) next
+  onward t some operand next e =
+      record {
+        rest = next_left left at behind t.rest some next e.1;
+        array = rw (append_assoc, e.0) (rw (first_read left at behind t.rest some next e.1) at t.array);
+      }
 
-left-3 : (t : goal.After-read_operand-third) →
-    let g = t.args in
-    Left (g.row / 128 / 128 / 128) t.read_operand-third.result.next g.behind.now
-left-3 t =
-    let s = t.before.before in
-    let g = s.args in
-    next_left (g.row / 128 / 128) s.read_operand-second.result.next g.behind.now (left-2 s) t.if-left-eq0-2.false _ t.read_operand-third.ensures.1
+  -- no more
+  done : Taken row predicated behind operands room p left at → left ≡ 0 →
+      array_of (with_predicate predicated (decoded row)) behind ≡ operands ++ (padded room [] ++ (p ∷ []))
+  done t h = rw (none_left left at behind h) at t.array
 
-left-4 : (u : goal.After-read_operand-fourth) →
-    let g = u.args in
-    Left (g.row / 128 / 128 / 128 / 128) u.read_operand-fourth.result.next g.behind.now
-left-4 u =
-    let t = u.before.before in
-    let g = t.args in
-    next_left (g.row / 128 / 128 / 128) t.read_operand-third.result.next g.behind.now (left-3 t) u.if-left-eq0-3.false _ u.read_operand-fourth.ensures.1
-
--- the array, as far as it is read
-read-1 : (r : goal.After-read_predicate-predicate) →
-    let g = r.args in
-    array_of (with_predicate g.predicated (decoded g.row)) g.behind.now ≡
-    r.read_operand-first.result.operand
-    ∷ (padded 4 (in_order (decoded (g.row / 128)) (drop r.read_predicate-predicate.result.next g.behind.now))
-    ++ (r.read_predicate-predicate.result.operand ∷ []))
-read-1 r =
-    let g = r.args in
-    rw (r.read_predicate-predicate.ensures.1, r.read_predicate-predicate.ensures.0, next-0 r.before, r.read_operand-first.ensures.0)
-    (row_read g.row g.predicated g.behind.now (omega arith) r.requires r.if-row-eq0.false)
-
-read-2 : (s : goal.After-read_operand-second) →
-    let g = s.args in
-    in_order (decoded (g.row / 128)) (drop s.read_predicate-predicate.result.next g.behind.now) ≡
-    s.read_operand-second.result.operand ∷ in_order (decoded (g.row / 128 / 128)) (drop s.read_operand-second.result.next g.behind.now)
-read-2 s =
-    let r = s.before.before in
-    let g = r.args in
-    rw s.read_operand-second.ensures.0
-    (first_read (g.row / 128) r.read_predicate-predicate.result.next g.behind.now (left-1 r) s.if-left-eq0.false _ s.read_operand-second.ensures.1)
-
-read-3 : (t : goal.After-read_operand-third) →
-    let g = t.args in
-    in_order (decoded (g.row / 128 / 128)) (drop t.read_operand-second.result.next g.behind.now) ≡
-    t.read_operand-third.result.operand ∷ in_order (decoded (g.row / 128 / 128 / 128)) (drop t.read_operand-third.result.next g.behind.now)
-read-3 t =
-    let s = t.before.before in
-    let g = s.args in
-    rw t.read_operand-third.ensures.0
-    (first_read (g.row / 128 / 128) s.read_operand-second.result.next g.behind.now (left-2 s) t.if-left-eq0-2.false _ t.read_operand-third.ensures.1)
-
-read-4 : (u : goal.After-read_operand-fourth) →
-    let g = u.args in
-    in_order (decoded (g.row / 128 / 128 / 128)) (drop u.read_operand-third.result.next g.behind.now) ≡
-    u.read_operand-fourth.result.operand ∷ in_order (decoded (g.row / 128 / 128 / 128 / 128)) (drop u.read_operand-fourth.result.next g.behind.now)
-read-4 u =
-    let t = u.before.before in
-    let g = t.args in
-    rw u.read_operand-fourth.ensures.0
-    (first_read (g.row / 128 / 128 / 128) t.read_operand-third.result.next g.behind.now (left-3 t) u.if-left-eq0-3.false _ u.read_operand-fourth.ensures.1)
+  there : Taken row predicated behind operands room p left at → (left ≡ 0 → ⊥) → at + width_at (place_by (left % 128)) (drop at behind) ≤ length behind
+  there t some = first_there left at behind t.rest some
 
 pub returns-then-row-eq0 : goal.returns-then-row-eq0
 returns-then-row-eq0 c =
@@ -101,59 +65,74 @@ read_operand-first-requires c =
 pub read_predicate-predicate-requires : goal.read_predicate-predicate-requires
 read_predicate-predicate-requires c =
     let g = c.args in
-    rw (next-0 c) (predicate_there g.row g.predicated g.behind.now (omega arith) c.requires c.if-row-eq0.false)
+    omega (arith, predicate_there g.row g.predicated g.behind.now (omega arith) c.requires c.if-row-eq0.false, c.read_operand-first.ensures.1)
 
 pub returns-then-left-eq0 : goal.returns-then-left-eq0
 returns-then-left-eq0 c =
-    let r = c.before.before.before in
-    rw (read-1 r, none_left _ _ _ c.if-left-eq0.true, r.no_operand-none.ensures)
+    let g = c.args in
+    let s1 = begun g.row g.predicated g.behind.now _ _ _ _ (omega arith) c.requires c.if-row-eq0.false c.read_operand-first.ensures c.read_predicate-predicate.ensures in
+    rw (done s1 c.if-left-eq0.true, c.no_operand-none.ensures)
 
 pub read_operand-second-requires : goal.read_operand-second-requires
-read_operand-second-requires c = first_there _ _ _ (left-1 c.before) c.if-left-eq0.false
+read_operand-second-requires c =
+    let g = c.args in
+    let s1 = begun g.row g.predicated g.behind.now _ _ _ _ (omega arith) c.requires c.if-row-eq0.false c.read_operand-first.ensures c.read_predicate-predicate.ensures in
+    there s1 c.if-left-eq0.false
 
 pub returns-then-left-eq0-2 : goal.returns-then-left-eq0-2
 returns-then-left-eq0-2 c =
-    let s = c.before.before.before.before in
-    let r = s.before.before in
-    rw (read-1 r, read-2 s, none_left _ _ _ c.if-left-eq0-2.true, r.no_operand-none.ensures)
+    let g = c.args in
+    let s1 = begun g.row g.predicated g.behind.now _ _ _ _ (omega arith) c.requires c.if-row-eq0.false c.read_operand-first.ensures c.read_predicate-predicate.ensures in
+    let s2 = onward s1 c.if-left-eq0.false _ _ c.read_operand-second.ensures in
+    rw (done s2 c.if-left-eq0-2.true, c.no_operand-none.ensures)
 
 pub read_operand-third-requires : goal.read_operand-third-requires
-read_operand-third-requires c = first_there _ _ _ (left-2 c.before) c.if-left-eq0-2.false
+read_operand-third-requires c =
+    let g = c.args in
+    let s1 = begun g.row g.predicated g.behind.now _ _ _ _ (omega arith) c.requires c.if-row-eq0.false c.read_operand-first.ensures c.read_predicate-predicate.ensures in
+    let s2 = onward s1 c.if-left-eq0.false _ _ c.read_operand-second.ensures in
+    there s2 c.if-left-eq0-2.false
 
 pub returns-then-left-eq0-3 : goal.returns-then-left-eq0-3
 returns-then-left-eq0-3 c =
-    let t = c.before.before.before.before.before in
-    let s = t.before.before in
-    let r = s.before.before in
-    rw (read-1 r, read-2 s, read-3 t, none_left _ _ _ c.if-left-eq0-3.true, r.no_operand-none.ensures)
+    let g = c.args in
+    let s1 = begun g.row g.predicated g.behind.now _ _ _ _ (omega arith) c.requires c.if-row-eq0.false c.read_operand-first.ensures c.read_predicate-predicate.ensures in
+    let s2 = onward s1 c.if-left-eq0.false _ _ c.read_operand-second.ensures in
+    let s3 = onward s2 c.if-left-eq0-2.false _ _ c.read_operand-third.ensures in
+    rw (done s3 c.if-left-eq0-3.true, c.no_operand-none.ensures)
 
 pub read_operand-fourth-requires : goal.read_operand-fourth-requires
-read_operand-fourth-requires c = first_there _ _ _ (left-3 c.before) c.if-left-eq0-3.false
+read_operand-fourth-requires c =
+    let g = c.args in
+    let s1 = begun g.row g.predicated g.behind.now _ _ _ _ (omega arith) c.requires c.if-row-eq0.false c.read_operand-first.ensures c.read_predicate-predicate.ensures in
+    let s2 = onward s1 c.if-left-eq0.false _ _ c.read_operand-second.ensures in
+    let s3 = onward s2 c.if-left-eq0-2.false _ _ c.read_operand-third.ensures in
+    there s3 c.if-left-eq0-3.false
 
 pub returns-then-left-eq0-4 : goal.returns-then-left-eq0-4
 returns-then-left-eq0-4 c =
-    let u = c.before.before.before.before.before.before in
-    let t = u.before.before in
-    let s = t.before.before in
-    let r = s.before.before in
-    rw (read-1 r, read-2 s, read-3 t, read-4 u, none_left _ _ _ c.if-left-eq0-4.true, r.no_operand-none.ensures)
+    let g = c.args in
+    let s1 = begun g.row g.predicated g.behind.now _ _ _ _ (omega arith) c.requires c.if-row-eq0.false c.read_operand-first.ensures c.read_predicate-predicate.ensures in
+    let s2 = onward s1 c.if-left-eq0.false _ _ c.read_operand-second.ensures in
+    let s3 = onward s2 c.if-left-eq0-2.false _ _ c.read_operand-third.ensures in
+    let s4 = onward s3 c.if-left-eq0-3.false _ _ c.read_operand-fourth.ensures in
+    rw (done s4 c.if-left-eq0-4.true, c.no_operand-none.ensures)
 
 pub read_operand-fifth-requires : goal.read_operand-fifth-requires
-read_operand-fifth-requires c = first_there _ _ _ (left-4 c.before) c.if-left-eq0-4.false
+read_operand-fifth-requires c =
+    let g = c.args in
+    let s1 = begun g.row g.predicated g.behind.now _ _ _ _ (omega arith) c.requires c.if-row-eq0.false c.read_operand-first.ensures c.read_predicate-predicate.ensures in
+    let s2 = onward s1 c.if-left-eq0.false _ _ c.read_operand-second.ensures in
+    let s3 = onward s2 c.if-left-eq0-2.false _ _ c.read_operand-third.ensures in
+    let s4 = onward s3 c.if-left-eq0-3.false _ _ c.read_operand-fourth.ensures in
+    there s4 c.if-left-eq0-4.false
 
 pub returns : goal.returns
 returns c =
-    let v = c.before.before.before.before.before.before in
-    let u = v.before.before in
-    let t = u.before.before in
-    let s = t.before.before in
-    let r = s.before.before in
-    let g = r.args in
-    rw (
-      read-1 r,
-      read-2 s,
-      read-3 t,
-      read-4 u,
-      first_read (g.row / 128 / 128 / 128 / 128) u.read_operand-fourth.result.next g.behind.now (left-4 u) v.if-left-eq0-4.false _ v.read_operand-fifth.ensures.1,
-      v.read_operand-fifth.ensures.0,
-    )
+    let g = c.args in
+    let s1 = begun g.row g.predicated g.behind.now _ _ _ _ (omega arith) c.requires c.if-row-eq0.false c.read_operand-first.ensures c.read_predicate-predicate.ensures in
+    let s2 = onward s1 c.if-left-eq0.false _ _ c.read_operand-second.ensures in
+    let s3 = onward s2 c.if-left-eq0-2.false _ _ c.read_operand-third.ensures in
+    let s4 = onward s3 c.if-left-eq0-3.false _ _ c.read_operand-fourth.ensures in
+    let s5 = onward s4 c.if-left-eq0-4.false _ _ c.read_operand-fifth.ensures in
+    sym s5.array

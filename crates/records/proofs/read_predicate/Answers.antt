@@ -5,7 +5,6 @@ use native.Mathlib.Omega.{arith}
 use Rattle.paper.specs.Places.{predicate}
 use Rattle.places.specs.Places.{place_by}
 use Rattle.records.specs.Record.{width_at}
-use borrow.Author.Rules.{rules}
 use Rattle.records.proofs.read_predicate.Goals as goal
 
 is-predicate : place_by 93 ≡ predicate
