@@ -3,7 +3,6 @@ use mathlib.Core.Path.{ap, sym, ◌∙◌}
 use Rattle.paper.specs.Numbers.{told}
 use Rattle.paper.proofs.OneToOne.{same_named}
 use Rattle.byte_checker.proofs.Verdicts.{verdict_odd, verdict_short, verdict_long, verdict_named}
-use borrow.Author.Rules.{rules}
 use Rattle.byte_checker.proofs.check_bytes.Goals as goal
 
 pub returns-then-tokens-gt-MOST_TOKENS : goal.returns-then-tokens-gt-MOST_TOKENS

@@ -2,7 +2,6 @@ use Prim.Native.Nat.{◌/◌}
 use native.Mathlib.Omega.{arith}
 use lib.ListN.{length}
 use Rattle.byte_checker.proofs.Fitting.{fitting_few}
-use borrow.Author.Rules.{rules}
 use Rattle.byte_checker.proofs.decode.Goals as goal
 
 pub fill-requires : goal.fill-requires
@@ -16,4 +15,4 @@ returns c =
     let g = c.args in
     let n = c.fitting_in-n.ensures in
     let few = fitting_few (length g.bytes.now / 4) (length g.room.now) in
-    (n, (rw n at c.fill.ensures, omega (arith, n, few.0, c.fill.auto.0)))
+    record { count = n; held = rw n at c.fill.ensures; fits = omega (arith, n, few.0, c.fill.auto.window) }

@@ -1,8 +1,7 @@
-use Prim.Native.Nat.{◌+◌, ◌-◌, ◌≤◌}
-use mathlib.Core.Path.{◌≡◌, refl, sym, ◌∙◌}
+use Prim.Native.Nat.{◌+◌}
+use mathlib.Core.Path.{refl, sym, ◌∙◌}
 use native.Mathlib.Omega.{arith}
-use lib.ListN.{length, take, drop}
-use lib.Seq.{sets}
+use lib.ListN.{take, drop}
 use borrow.Author.Rules.{rules}
 use Rattle.lists.proofs.Stores.{one_behind, all_behind, part_length, part_at}
 use Rattle.byte_checker.specs.Bytes.{tokens_in}

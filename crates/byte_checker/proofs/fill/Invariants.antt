@@ -1,12 +1,8 @@
-use Prim.Native.Nat.{◌+◌, ◌-◌, ◌≤◌}
-use mathlib.Core.Path.{◌≡◌, refl, sym, ◌∙◌}
-use native.Mathlib.Omega.{arith}
+use Prim.Native.Nat.{◌-◌, ◌≤◌}
+use mathlib.Core.Path.{◌≡◌}
 use lib.ListN.{length, take, drop}
 use lib.Seq.{sets}
-use borrow.Author.Rules.{rules}
-use Rattle.lists.proofs.Stores.{one_behind, all_behind, part_length, part_at}
 use Rattle.byte_checker.specs.Bytes.{tokens_in}
-use Rattle.byte_checker.proofs.Tokens.{tokens_at, tokens_there}
 use Rattle.byte_checker.proofs.fill.Given as goal
 
 abbrev pub invariant-loop-k : goal.invariant-loop-k

@@ -1,7 +1,6 @@
 use mathlib.Core.Path.{refl}
 use mathlib.Core.Logic.{inl, inr}
 use native.Mathlib.Omega.{arith}
-use borrow.Author.Rules.{rules}
 use Rattle.byte_checker.proofs.view_from.Goals as goal
 
 pub returns-then-left-le-WINDOW : goal.returns-then-left-le-WINDOW
