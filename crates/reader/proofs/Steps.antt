@@ -9,7 +9,6 @@ use lib.ListN.{length, take, drop, get_or, length-drop}
 use lib.Seq.{drop-cons}
 use borrow.Author.Tests.{lt-ltb}
 use Rattle.paper.specs.Numbers.{reason_by, refusal_at_bit}
-use Rattle.paper.specs.InstructionToken.{is_predicated}
 use Rattle.paper.specs.Instruction.{judged}
 use Rattle.paper.specs.declared.Version.{Version}
 use Rattle.paper.specs.declared.Judged.{Judged}
@@ -35,7 +34,7 @@ module _ (v : Version) (s : List ℕ) (at told : ℕ) (some : at < length s) (is
   -- a good instruction, read, and a refused one
   pub record Got : Type 0 where
     pub reads : reading_at v s at ≡ got (at + 1 + size_in told) (record_by (kind_in told) v (get_or s at 0) behind)
-    pub readable : Readable (is_predicated (get_or s at 0)) (row_by (kind_in told) v (get_or s at 0)) behind
+    pub readable : Readable (row_by (kind_in told) v (get_or s at 0)) behind
     pub inside : at + 1 + size_in told ≤ length s
 
   pub record Unread : Type 0 where

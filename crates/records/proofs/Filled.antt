@@ -14,7 +14,7 @@ use Rattle.places.specs.Places.{place_by, decoded}
 use Rattle.places.proofs.Decoding.{decoded_zero, decoded_step}
 use Rattle.records.specs.declared.Operand.{Operand}
 use Rattle.records.specs.Record.{operand_count, no_operand, operand_of, width_at, operand_at, in_order, predicate_or, padded, array_of}
-use Rattle.records.specs.ByClass.{width_of, ordered, Readable}
+use Rattle.records.specs.ByClass.{width_of, ordered, ReadableRow}
 
 -- one operand, by the place of its token
 first_token_lem : (at : ℕ) (behind : List ℕ) → get_or (drop at behind) 0 0 ≡ get_or behind at 0
@@ -179,7 +179,7 @@ module _ (place : Place) (rest : List Place) (tokens : List ℕ) where
         same,
       )
 
-module _ (row : ℕ) (predicated : Bool) (behind : List ℕ) (fits : row < 2 ^ 64) (r : Readable predicated (decoded row) behind) where
+module _ (row : ℕ) (predicated : Bool) (behind : List ℕ) (fits : row < 2 ^ 64) (r : ReadableRow predicated (decoded row) behind) where
   pub no_row_lem : row ≡ 0 → array_of (with_predicate predicated (decoded row)) behind ≡ padded operand_count []
   unfolding array_of in_order predicate_or
   no_row_lem h = rw (h, decoded_zero)

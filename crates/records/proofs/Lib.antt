@@ -6,3 +6,4 @@ pub mod Declared
 pub mod Rows
 pub mod Readable
 pub mod OwnRecord
+pub mod RowRead

@@ -22,10 +22,10 @@ use Rattle.paper.proofs.FirstToken.{Says, is_broken, is_comment_lem, is_end_lem,
 use Rattle.paper.proofs.OwnTokens.{operands_good, good_claim}
 use Rattle.blocks.proofs.Classes.{class_has}
 use Rattle.shapes.specs.Classes.{class_number}
-use Rattle.shapes.proofs.Shapes.{shape_places, decoded_digits, row_unpredicated}
+use Rattle.instruction_token.proofs.ByShape.{places_back}
 use Rattle.records.specs.Record.{record_on}
-use Rattle.records.specs.ByClass.{row_of, row_by, record_by, width_of, ordered, Readable}
-use Rattle.records.proofs.Rows.{unpredicated_in_order, row_passed}
+use Rattle.records.specs.ByClass.{row_by, record_by, width_of, ordered, Readable}
+use Rattle.records.proofs.Rows.{row_few, row_passed}
 use Rattle.records.proofs.Passed.{passed_width}
 
 -- no opcode of the table has a comment's class or END's
@@ -41,30 +41,26 @@ module _ (v : Version) (first : ℕ) (rest : List ℕ) (size : ℕ) (class : Cla
   -- what is known of the record, where the first token says this
   pub record Read (h : Head) : Type 0 where
     pub is : record_on h first rest ≡ record_by (class_number class) v first (take size rest)
-    pub readable : Readable (is_predicated first) (row_by (class_number class) v first) (take size rest)
-
-  -- the places of the shape are those of the table
-  row_is : (places : List Place) → entry_of v (opcode_of first) ≡ listed places → row_of v first ≡ places
-  row_is places e = rw (shape_places v (opcode_of first) places e) (decoded_digits v (opcode_of first) places e)
+    pub readable : Readable (row_by (class_number class) v first) (take size rest)
 
   by_head_lem : (h : Head) → Says v first h → claim h ≡ size → on_claimed v h (opcode_of first) (take size rest) ≡ Good size class → Read h
   unfolding ordered width_of
   by_head_lem h (is_broken b) k g = apart (cc)
   by_head_lem h (is_comment_lem o l) k g =
       let c : One Comment ≡ class = cc in
-      record { is = rw (← c); readable = rw (← c) (record { there = omega arith; all_ordered = refl }) }
+      record { is = rw (← c); readable = rw (← c) (record { there = omega arith; few = omega arith }) }
   by_head_lem h (is_end_lem n) k g =
       let c : Closes End ≡ class = cc in
-      record { is = rw (← c); readable = rw (← c) (record { there = omega arith; all_ordered = refl }) }
+      record { is = rw (← c); readable = rw (← c) (record { there = omega arith; few = omega arith }) }
   by_head_lem h (is_listed {places} o e l) k g =
       let row = with_predicate (is_predicated first) places in
       let fits = operands_good size class v (opcode_of first) row (claimed v first places) (take size rest) g in
       let width = passed_width (row_passed v first places e l (take size rest) fits.0) in
       record {
-        is = rw (← fits.2, no_comment (opcode_of first), no_end (opcode_of first), row_is places e, k);
+        is = rw (← fits.2, no_comment (opcode_of first), no_end (opcode_of first), places_back v first places e l, k);
         readable =
-            rw (← fits.2, no_comment (opcode_of first), no_end (opcode_of first), row_is places e)
-            (record { there = omega arith; all_ordered = unpredicated_in_order places (row_unpredicated v (opcode_of first) places e) });
+            rw (← fits.2, no_comment (opcode_of first), no_end (opcode_of first), places_back v first places e l)
+            (record { there = omega arith; few = row_few v first places e l });
       }
 
   pub good_read_lem : judged v (first ∷ rest) ≡ Good size class → Read (token_head v first)

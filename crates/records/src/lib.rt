@@ -5,9 +5,9 @@ ghost use Rattle.std.specs.Prelude.{◌≡◌, ◌+◌, ◌≤◌, length, drop}
 ghost use Rattle.paper.specs.Notation.{pick};
 ghost use Rattle.paper.specs.InstructionToken.{is_predicated, with_predicate};
 ghost use Rattle.paper.specs.Places.{predicate};
-ghost use Rattle.places.specs.Places.{place_by, decoded};
+ghost use Rattle.places.specs.Places.{place_by, decoded, predicated_row};
 ghost use Rattle.records.specs.Record.{no_operand, raw_operand, destination_operand, source_operand, operand_of, width_at, operand_at, array_of, empty_record, no_record, instruction_record};
-ghost use Rattle.records.specs.ByClass.{row_by, record_by, Readable};
+ghost use Rattle.records.specs.ByClass.{row_by, record_by, Readable, ReadableRow};
 
 use paper::Version;
 
@@ -194,7 +194,7 @@ fn read_predicate(predicated: bool, behind: &[u32], at: usize) -> Step
 // The operands of a row of places, read from the tokens behind the instruction token; the predicate's token stands behind the first operand.
 // Each operand is stored once, in the array that is given: an array that is filled in a loop would be zeroed before and copied after.
 fn read_operands(row: u64, predicated: bool, behind: &[u32]) -> [Operand; OPERANDS]
-    requires { Readable predicated (decoded row) behind.now }
+    requires { ReadableRow predicated (decoded row) behind.now }
     ensures { result ≡ array_of (with_predicate predicated (decoded row)) behind.now }
 {
     let none = no_operand();
@@ -262,7 +262,7 @@ fn empty_record(opcode: u32, extent: u32) -> Record
 }
 
 fn instruction_record(first: u32, row: u64, behind: &[u32]) -> Record
-    requires { Readable (is_predicated first) (decoded row) behind.now }
+    requires { ReadableRow (is_predicated first) (decoded row) behind.now }
     ensures { result ≡ instruction_record first (array_of (with_predicate (is_predicated first) (decoded row)) behind.now) }
 {
     let operands = read_operands(row, first / 0x1000_0000 % 2 == 1, behind);
@@ -276,6 +276,31 @@ fn instruction_record(first: u32, row: u64, behind: &[u32]) -> Record
     }
 }
 
+// The record of an instruction whose opcode has no operands. No lawful one is predicated; one that is all the same has a predicate behind
+// an operand of place 0, as the places of its shape say.
+fn bare_record(first: u32, behind: &[u32]) -> Record
+    requires { Readable (decoded (pick (is_predicated first) (predicated_row 0) 0)) behind.now }
+    ensures { result ≡ instruction_record first (array_of (decoded (pick (is_predicated first) (predicated_row 0) 0)) behind.now) }
+{
+    if first / 0x1000_0000 % 2 == 1 {
+        let none = no_operand();
+        let unplaced = read_operand(0, behind, 0);
+        let predicate = read_operand(places::PREDICATE, behind, unplaced.next);
+        let a = unplaced.operand;
+        let p = predicate.operand;
+        let operands = [a, none, none, none, none, p];
+        return Record {
+            opcode: first % 0x1_0000,
+            controls: first / 0x1_0000 % 0x100,
+            predicated: 1,
+            coissue: first / 0x4000_0000 % 2,
+            extent: 0,
+            operands,
+        };
+    }
+    instruction_record(first, 0, behind)
+}
+
 // The record of a refusal: all zero.
 pub fn no_record() -> Record
     ensures { result ≡ no_record }
@@ -285,7 +310,7 @@ pub fn no_record() -> Record
 
 // The record of an instruction of a class, from its first token and the tokens that it takes behind it.
 pub fn read_record(version: Version, class: u64, first: u32, behind: &[u32]) -> Record
-    requires { Readable (is_predicated first) (row_by class version first) behind.now }
+    requires { Readable (row_by class version first) behind.now }
     ensures { result ≡ record_by class version first behind.now }
 {
     if class == told::COMMENT {
@@ -295,5 +320,9 @@ pub fn read_record(version: Version, class: u64, first: u32, behind: &[u32]) -> 
         return empty_record(paper::END, 0);
     }
     let shape = opcodes::shape_of(version, instruction_token::opcode_of(first));
-    instruction_record(first, shapes::places_in(shape), behind)
+    let row = shapes::places_in(shape);
+    if row == 0 {
+        return bare_record(first, behind);
+    }
+    instruction_record(first, row, behind)
 }

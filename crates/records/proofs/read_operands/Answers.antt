@@ -11,7 +11,7 @@ use Rattle.paper.specs.Places.{predicate}
 use Rattle.places.specs.Places.{place_by, decoded}
 use Rattle.records.specs.declared.Operand.{Operand}
 use Rattle.records.specs.Record.{width_at, operand_at, in_order, padded, array_of, no_operand}
-use Rattle.records.specs.ByClass.{Readable}
+use Rattle.records.specs.ByClass.{ReadableRow}
 use Rattle.records.proofs.Filled.{Left, none_left, first_there, next_left, first_read, no_row_lem, opening_there, predicate_there, rest_left, row_read}
 use Rattle.records.proofs.read_operands.Goals as goal
 
@@ -22,7 +22,7 @@ record Taken (row : ℕ) (predicated : Bool) (behind : List ℕ) (operands : Lis
 
 -- the first operand and the predicate's
 begun : (row : ℕ) (predicated : Bool) (behind : List ℕ) (a p : Operand) (next at : ℕ) →
-    row < 2 ^ 64 → Readable predicated (decoded row) behind → (row ≡ 0 → ⊥) →
+    row < 2 ^ 64 → ReadableRow predicated (decoded row) behind → (row ≡ 0 → ⊥) →
     (a ≡ operand_at (place_by (row % 128)) behind) × (next ≡ 0 + width_at (place_by (row % 128)) behind) →
     (p ≡ pick predicated (operand_at predicate (drop next behind)) no_operand) × (at ≡ next + pick predicated 1 0) →
     Taken row predicated behind (a ∷ []) 4 p (row / 128) at

@@ -1,4 +1,6 @@
-use mathlib.Core.Path.{ap, ◌∙◌}
+use mathlib.Core.Path.{◌≡◌, sym, ap, ◌∙◌}
+use Rattle.paper.specs.InstructionToken.{opcode_of}
+use Rattle.records.proofs.RowRead.{bare_row, row_readable, row_is}
 use borrow.Author.Tests.{eq-eqb, ne_eqb}
 use Rattle.shapes.specs.Shape.{shape_of, places_field}
 use Rattle.records.proofs.read_record.Goals as goal
@@ -9,16 +11,39 @@ returns-then-class-eq-COMMENT c = rw (eq-eqb _ _ c.if-class-eq-COMMENT.true, ←
 pub returns-then-class-eq-END : goal.returns-then-class-eq-END
 returns-then-class-eq-END c = rw (ne_eqb _ _ c.if-class-eq-COMMENT.false, eq-eqb _ _ c.if-class-eq-END.true) c.empty_record-then-class-eq-END.ensures
 
+pub bare_record-requires : goal.bare_record-requires
+bare_record-requires c =
+    let g = c.args in
+    let row : c.places_in-row.result ≡ places_field (shape_of g.version (opcode_of g.first)) =
+        c.places_in-row.ensures ∙ ap places_field (c.shape_of-shape.ensures ∙ ap (shape_of g.version) c.opcode_of.ensures) in
+    rw (ne_eqb _ _ c.if-class-eq-COMMENT.false, ne_eqb _ _ c.if-class-eq-END.false, bare_row g.version g.first (sym row ∙ c.if-row-eq0.true)) at c.requires
+
+pub returns-then-row-eq0 : goal.returns-then-row-eq0
+returns-then-row-eq0 c =
+    let g = c.args in
+    let row : c.places_in-row.result ≡ places_field (shape_of g.version (opcode_of g.first)) =
+        c.places_in-row.ensures ∙ ap places_field (c.shape_of-shape.ensures ∙ ap (shape_of g.version) c.opcode_of.ensures) in
+    rw (ne_eqb _ _ c.if-class-eq-COMMENT.false, ne_eqb _ _ c.if-class-eq-END.false, bare_row g.version g.first (sym row ∙ c.if-row-eq0.true))
+    c.bare_record.ensures
+
 pub instruction_record-requires : goal.instruction_record-requires
 instruction_record-requires c =
-    rw (c.places_in.ensures, c.shape_of-shape.ensures, c.opcode_of.ensures)
-    (rw (ne_eqb _ _ c.if-class-eq-COMMENT.false, ne_eqb _ _ c.if-class-eq-END.false) at c.requires)
+    let g = c.args in
+    let row : c.places_in-row.result ≡ places_field (shape_of g.version (opcode_of g.first)) =
+        c.places_in-row.ensures ∙ ap places_field (c.shape_of-shape.ensures ∙ ap (shape_of g.version) c.opcode_of.ensures) in
+    rw row
+    (row_readable g.version g.first (λ e. c.if-row-eq0.false (row ∙ e))
+    (rw (ne_eqb _ _ c.if-class-eq-COMMENT.false, ne_eqb _ _ c.if-class-eq-END.false) at c.requires))
 
 pub returns : goal.returns
 returns c =
+    let g = c.args in
+    let row : c.places_in-row.result ≡ places_field (shape_of g.version (opcode_of g.first)) =
+        c.places_in-row.ensures ∙ ap places_field (c.shape_of-shape.ensures ∙ ap (shape_of g.version) c.opcode_of.ensures) in
     rw (
       ne_eqb _ _ c.if-class-eq-COMMENT.false,
       ne_eqb _ _ c.if-class-eq-END.false,
-      ← (c.places_in.ensures ∙ ap places_field (c.shape_of-shape.ensures ∙ ap (shape_of c.args.version) c.opcode_of.ensures)),
+      row_is g.version g.first (λ e. c.if-row-eq0.false (row ∙ e)),
+      ← row,
     )
     c.instruction_record.ensures
