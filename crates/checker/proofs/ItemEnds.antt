@@ -25,7 +25,6 @@ use Rattle.paper.specs.declared.Judged.{Judged}
 use Rattle.paper.specs.declared.Judged.TheVariants.{Good, Refused as Wrong}
 use Rattle.paper.specs.Walk.{counts}
 use Rattle.paper.proofs.OneToOne.{same_instruction}
-use Rattle.blocks.specs.Descent
 use Rattle.blocks.specs.Descent.{refused, item_of, block_of}
 use Rattle.blocks.proofs.Cutting.{cut_none, cut_at}
 use Rattle.blocks.proofs.Unfold.{item_one, item_opens, item_closes}
