@@ -27,7 +27,7 @@ returns c =
     let g = c.args in
     let is =
     held g.buffer.now g.n g.i g.j g.run.now (omega arith) ∙ sym c.edit_stream-answer.ensures in
-    record { told = ap told_edit (sym is); held = c.splice_in.ensures ∙ after_yes g.buffer.now g.n g.i g.j g.run.now c.edit_stream-answer.result c.in_default.in_default-own.keys2 is }
+    record { told = ap told_edit (sym is); held = c.splice_in.ensures ∙ after_yes g.buffer.now g.n g.i g.j g.run.now c.edit_stream-answer.result c.in_default.not-Refused is }
 
 pub slice_bounds-edit_stream-end-2 : goal.slice_bounds-edit_stream-end-2
 slice_bounds-edit_stream-end-2 c = let g = c.args in sym (length-take-le g.n g.buffer.now (omega arith))
