@@ -6,7 +6,6 @@ use Rattle.paper.specs.declared.Reason.TheVariants.{Length as LENGTH}
 use Rattle.edit.specs.Edit.{told_edit}
 use Rattle.edit.proofs.BufferHoldsTheSplice.{refused_keeps}
 use Rattle.editor.proofs.Answers.{not_held, held, after_yes}
-use borrow.Author.Rules.{rules}
 use Rattle.editor.proofs.edit.Goals as goal
 
 pub returns-then-room-n : goal.returns-then-room-n

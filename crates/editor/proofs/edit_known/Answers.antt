@@ -1,10 +1,7 @@
 use mathlib.Core.Path.{sym, ◌∙◌}
-use mathlib.Core.Bool.{true}
 use native.Mathlib.Omega.{arith}
 use Rattle.walk.proofs.OnStream.{stands_first}
-use Rattle.editor.specs.Found.{FoundAt}
 use Rattle.editor.proofs.Answers.{before_first, behind_last, no_first, no_second, crossed}
-use borrow.Author.Rules.{rules}
 use Rattle.editor.proofs.edit_known.Goals as goal
 
 pub returns-then-i-lt1 : goal.returns-then-i-lt1

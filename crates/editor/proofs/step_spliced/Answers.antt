@@ -1,4 +1,4 @@
-use mathlib.Core.Path.{refl, sym, ◌∙◌}
+use mathlib.Core.Path.{refl, ◌∙◌}
 use native.Mathlib.Omega.{arith}
 use Rattle.walk.proofs.Stretching.{pass_one}
 use Rattle.editor.proofs.Tokens.{step_in_old, step_in_run, step_gathered}
@@ -22,4 +22,3 @@ returns c =
     pass_one g.version _ g.state 0 _ c.pass-2.result (omega arith) (omega arith) c.pass-2.ensures
     ∙ step_gathered g.run.now g.old.now g.j g.i (omega arith) g.version g.state (omega arith) _ c.shown_of-shown.result _ (omega arith) refl c.shown_of-shown.ensures
     c.gather.ensures
-
