@@ -1,24 +1,21 @@
 -- The answer of an edit, in the order of document 01: LENGTH, VERSION, PLACE, ROOM, and what the buffer holds after a yes.
 use Prim.Native.Nat.{ℕ, ◌≤◌, ◌<◌}
 use mathlib.Core.Path.{◌≡◌, refl, ap, sym, ◌∙◌}
-use mathlib.Core.List.{List, [], ◌∷◌, ◌++◌}
-use mathlib.Core.Logic.{⊎_elim}
+use mathlib.Core.List.{List, ◌++◌}
 use native.Mathlib.Omega.{arith}
 use lib.ListN.{length, take, drop, get_or}
 use lib.Seq.{length-take-le}
-use types.Run.{OneOf}
-use denote.Enum.Declared.{tag_of}
 use borrow.Author.Tests.{le-leb, lt-leb}
 use Rattle.paper.proofs.Bools.{and_false}
 use Rattle.paper.specs.Versions.{named}
 use Rattle.paper.specs.Stream.{most_tokens}
 use Rattle.paper.specs.declared.Version.{Version}
+use Rattle.paper.specs.declared.Refusal.{Refusal}
 use Rattle.paper.specs.declared.Reason.TheVariants.{Length as LENGTH, Place as PLACE, Room as ROOM}
 use Rattle.edit.specs.declared.Edited.{Edited}
 use Rattle.edit.specs.declared.Edited.TheVariants.{Joined, Accepted, Refused}
 use Rattle.edit.specs.Boundaries.{Standing, nowhere, stands_with, standing_at}
 use Rattle.edit.specs.Edit.{splice, new_length, spliced, edit_refused, edit_named, edited, edited_in, held_after, buffer_after}
-use Rattle.edit.specs.contracts.Edited.{the_type}
 use Rattle.edit.proofs.Standing.{reached_standing, standing_reached}
 use Rattle.edit.proofs.Allowed.{Allowed, places, new_length_lem, joined_allowed, accepted_allowed, joined_held, accepted_held}
 use Rattle.edit.proofs.BufferHoldsTheSplice.{joined_length, accepted_length}
@@ -137,8 +134,8 @@ module _ (buffer : List ℕ) (n i j : ℕ) (run : List ℕ) where
         let l = accepted_length (length buffer) (take n buffer) i j run k h.1 in
         taken a.0 h.0 a.1 l.0 l.1 ∙ sym (ap (λ (x : Edited). held_after x buffer n i j run) e)
 
-  -- a yes is the first or the second of the answers
-  pub after_yes : (x : Edited) → OneOf (0 ∷ 1 ∷ []) (tag_of the_type x) → edited_in buffer n i j run ≡ x → spliced_in buffer n i j run ≡ buffer_after buffer n i j run
+  -- a yes is an answer that does not refuse
+  pub after_yes : (x : Edited) → ((r : Refusal) → x ≡ Refused r → ⊥) → edited_in buffer n i j run ≡ x → spliced_in buffer n i j run ≡ buffer_after buffer n i j run
   after_yes (Joined k) h e = after_joined k e
   after_yes (Accepted k) h e = after_accepted k e
-  after_yes (Refused r) h e = absurd (⊎_elim (λ f. omega arith) (λ f. omega arith) h)
+  after_yes (Refused r) h e = absurd (h r refl)

@@ -6,7 +6,6 @@ use Rattle.paper.specs.declared.Reason.TheVariants.{Length as LENGTH}
 use Rattle.edit.specs.Edit.{told_edit}
 use Rattle.edit.proofs.BufferHoldsTheSplice.{refused_keeps}
 use Rattle.editor.proofs.Answers.{not_held, held, after_yes}
-use borrow.Author.Rules.{rules}
 use Rattle.editor.proofs.edit.Goals as goal
 
 pub returns-then-room-n : goal.returns-then-room-n
@@ -27,7 +26,7 @@ returns c =
     let g = c.args in
     let is =
     held g.buffer.now g.n g.i g.j g.run.now (omega arith) ∙ sym c.edit_stream-answer.ensures in
-    record { told = ap told_edit (sym is); held = c.splice_in.ensures ∙ after_yes g.buffer.now g.n g.i g.j g.run.now c.edit_stream-answer.result c.in_default.in_default-own.keys2 is }
+    record { told = ap told_edit (sym is); held = c.splice_in.ensures ∙ after_yes g.buffer.now g.n g.i g.j g.run.now c.edit_stream-answer.result c.in_default.not-Refused is }
 
 pub slice_bounds-edit_stream-end-2 : goal.slice_bounds-edit_stream-end-2
 slice_bounds-edit_stream-end-2 c = let g = c.args in sym (length-take-le g.n g.buffer.now (omega arith))

@@ -1,10 +1,7 @@
 use mathlib.Core.Path.{sym, ◌∙◌}
-use mathlib.Core.Bool.{true}
 use native.Mathlib.Omega.{arith}
 use Rattle.walk.proofs.OnStream.{stands_first}
-use Rattle.editor.specs.Found.{FoundAt}
 use Rattle.editor.proofs.Answers.{before_first, behind_last, no_first, no_second, crossed}
-use borrow.Author.Rules.{rules}
 use Rattle.editor.proofs.edit_known.Goals as goal
 
 pub returns-then-i-lt1 : goal.returns-then-i-lt1
@@ -27,12 +24,6 @@ walk_to-found-requires c =
     let g = c.args in
     rw c.start.ensures (stands_first g.version g.old.now (omega arith), omega arith, omega arith)
 
--- the first place is found
-found : (t : goal.Then-found) →
-    let g = t.args in
-    FoundAt g.version g.old.now g.i (record { there = true; state = t.walk_to-found.result.state })
-found t = rw t.if-found.true at t.walk_to-found.ensures
-
 pub returns : goal.returns
 returns c =
     let g = c.args in
@@ -40,7 +31,11 @@ returns c =
     ∙ sym (no_first g.version g.old.now g.room g.i g.j g.run.now (rw c.if-found.false at c.walk_to-found.ensures))
 
 pub edit_behind-requires : goal.edit_behind-requires
-edit_behind-requires c = let f = found c.before in (f.0, omega (arith, f.1), omega arith, omega arith)
+edit_behind-requires c =
+    let f = rw c.if-found.true at c.walk_to-found.ensures in
+    (f.0, omega (arith, f.1), omega arith, omega arith)
 
 pub returns-then-found : goal.returns-then-found
-returns-then-found c = rw (found c.before.before).1 at c.edit_behind.ensures
+returns-then-found c =
+    let f = rw c.if-found.true at c.walk_to-found.ensures in
+    rw f.1 at c.edit_behind.ensures

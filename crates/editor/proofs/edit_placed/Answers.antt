@@ -1,7 +1,6 @@
 use mathlib.Core.Path.{sym, ◌∙◌}
 use native.Mathlib.Omega.{arith}
 use Rattle.editor.proofs.Answers.{too_long, no_room, has_room_lem}
-use borrow.Author.Rules.{rules}
 use Rattle.editor.proofs.edit_placed.Goals as goal
 
 pub returns-then-kept-run : goal.returns-then-kept-run

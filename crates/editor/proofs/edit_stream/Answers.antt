@@ -2,7 +2,6 @@ use mathlib.Core.Path.{sym, ◌∙◌}
 use native.Mathlib.Omega.{arith}
 use Rattle.paper.proofs.OneToOne.{same_named}
 use Rattle.editor.proofs.Answers.{too_few, too_many, by_version}
-use borrow.Author.Rules.{rules}
 use Rattle.editor.proofs.edit_stream.Goals as goal
 
 pub returns-then-old-lt-FEWEST_TOKENS : goal.returns-then-old-lt-FEWEST_TOKENS

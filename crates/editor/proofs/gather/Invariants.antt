@@ -1,12 +1,8 @@
-use Prim.Native.Nat.{◌+◌, ◌-◌, ◌≤◌}
-use mathlib.Core.Path.{◌≡◌, refl, sym, ◌∙◌}
-use native.Mathlib.Omega.{arith}
+use Prim.Native.Nat.{◌-◌, ◌≤◌}
+use mathlib.Core.Path.{◌≡◌}
 use lib.ListN.{length, take, drop}
 use lib.Seq.{sets}
 use Rattle.editor.specs.Steps.{behind_run}
-use Rattle.editor.proofs.Tokens.{behind_length}
-use borrow.Author.Rules.{rules}
-use Rattle.lists.proofs.Stores.{one_behind, all_behind, part_length, part_at, front_stored}
 use Rattle.editor.proofs.gather.Given as goal
 
 abbrev pub invariant-loop-k : goal.invariant-loop-k

@@ -3,7 +3,6 @@ use mathlib.Core.Path.{◌≡◌, sym}
 use native.Mathlib.Omega.{arith}
 use lib.ListN.{length}
 use Rattle.editor.proofs.Tokens.{behind_in_run, behind_in_old}
-use borrow.Author.Rules.{rules}
 use Rattle.editor.proofs.token_of.Goals as goal
 
 pub returns-then-at-run : goal.returns-then-at-run
