@@ -150,7 +150,7 @@ fn asked_by(version: Version, first: u32) -> Wanted
 }
 
 // What is told of a good instruction of the common kind; 0 of any other.
-fn pass(version: Version, first: u32, behind: &[u32]) -> u64
+pub fn pass(version: Version, first: u32, behind: &[u32]) -> u64
     ensures { result ≡ passed version first behind.now }
 {
     let row = asked_by(version, first);
