@@ -289,11 +289,12 @@ fn bare_record(first: u32, behind: &[u32]) -> Record
         let a = unplaced.operand;
         let p = predicate.operand;
         let operands = [a, none, none, none, none, p];
+        let coissue = first / 0x4000_0000 % 2;
         return Record {
             opcode: first % 0x1_0000,
             controls: first / 0x1_0000 % 0x100,
             predicated: 1,
-            coissue: first / 0x4000_0000 % 2,
+            coissue,
             extent: 0,
             operands,
         };
