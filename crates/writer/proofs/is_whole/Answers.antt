@@ -11,8 +11,7 @@ use Rattle.told.proofs.Numbers.{yes_even, yes_size, refusal_odd}
 use Rattle.stretches.proofs.Stretches.{told_whole}
 use Rattle.writer.specs.Laid.{is_whole}
 use borrow.Author.Rules.{rules}
-use Rattle.writer.proofs.is_whole.Statement.{statement}
-use Rattle.writer.proofs.is_whole.Tie as tie
+use Rattle.writer.proofs.is_whole.Goals as goal
 
 refused : (j : Judged) (told n : ℕ) → told ≡ judged_number j → is_refusal told ≡ true → false ≡ is_whole j n
 refused (Lawful size class) told n t f = let even = sym (yes_even size class) ∙ ap is_refusal (sym t) ∙ f in apart (cc)
@@ -22,20 +21,16 @@ passed : (j : Judged) (told n : ℕ) → told ≡ judged_number j → is_refusal
 passed (Lawful size class) told n t f = rw (t, yes_size size class)
 passed (Unlawful r) told n t f = let odd = sym (refusal_odd r) ∙ ap is_refusal (sym t) ∙ f in apart (cc)
 
-returns : tie.Need-returns
+pub returns-then-is_refused : goal.returns-then-is_refused
+returns-then-is_refused c =
+    let g = c.args in
+    refused (judged g.version g.tokens.now) c.judge_at-told.result _ (c.judge_at-told.ensures ∙ told_whole g.version g.tokens.now 0)
+    (sym c.is_refused.ensures ∙ c.if-is_refused.true)
+
+pub returns : goal.returns
 returns c =
-    let g = c.before.before.before.before.args in
-    refused (judged g.version g.tokens.now) c.before.before.judge-at.result _ (c.before.before.judge-at.ensures ∙ told_whole g.version g.tokens.now 0)
-    (sym c.before.is_refused_lem.ensures ∙ c.if1.true)
-
-returns-2 : tie.Need-returns-2
-returns-2 c =
-    let g = c.before.before.before.before.before.args in
-    let told = c.before.before.before.judge-at in
-    rw c.type_size.ensures
+    let g = c.args in
+    let told = c.judge_at-told in
+    rw c.size_of.ensures
     (passed (judged g.version g.tokens.now) told.result _ (told.ensures ∙ told_whole g.version g.tokens.now 0)
-    (sym c.before.before.is_refused_lem.ensures ∙ c.before.if1.false))
-
-pub is_whole_spec : {M : Type 1} → statement M
-is_whole_spec =
-    tie.close (tie.spec (λ c κs. search rules) (λ c κs. search rules) returns (λ c κs. search rules) (λ c. search rules) returns-2)
+    (sym c.is_refused.ensures ∙ c.if-is_refused.false))

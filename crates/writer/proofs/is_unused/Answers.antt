@@ -1,0 +1,5 @@
+use borrow.Author.Rules.{rules}
+use Rattle.writer.proofs.is_unused.Goals as goal
+
+pub returns : goal.returns
+returns c = rw c.raw_operand-none.ensures at c.same_operand.ensures

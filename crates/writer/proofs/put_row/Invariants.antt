@@ -1,0 +1,39 @@
+use Prim.Native.Nat.{◌+◌, ◌*◌, ◌-◌, ◌/◌, ◌%◌, ◌≤◌}
+use native.Mathlib.Omega.{arith}
+use mathlib.Core.Path.{◌≡◌, refl, sym, ◌∙◌}
+use mathlib.Core.Bool.{true, ◌&&◌}
+use lib.Dec.{eqb}
+use lib.ListN.{length, drop, get_or, length-map}
+use borrow.Author.Tests.{not-true, not-false}
+use borrow.Rule.Slice.PartMut.{same_len_mid}
+use Rattle.paper.specs.Notation.{pick}
+use Rattle.places.specs.Places.{place_by, decoded}
+use Rattle.records.specs.Record.{operand_count, predicate_slot, no_operand}
+use Rattle.records.specs.ByClass.{ordered}
+use Rattle.record_tokens.specs.Tokens.{row_tokens}
+use Rattle.writer.specs.Laid.{fits, row_fits, unused_from, predicate_unused, array_fits}
+use Rattle.writer.proofs.Paste.{put_length, lent_length, put_on, put_failed, put_passed, Rest, rest_on, rest_none}
+use Rattle.writer.proofs.Row.{places_step, row_step, row_none, operand_few, slot_few, held_few, fits_step, ordered_step, fits_none, ordered_none, unused_step, unused_done}
+use borrow.Author.Rules.{rules}
+use Rattle.writer.proofs.put_row.Given as goal
+
+abbrev pub invariant-loop-left : goal.invariant-loop-left
+invariant-loop-left l =
+    (l.left ≤ l.row)
+    × (length l.room ≡ length l.initial.room)
+    × (l.held + length (decoded l.left) ≤ operand_count)
+    × (l.next + 2 * length (decoded l.left) ≤ 2 * operand_count)
+    × Rest (row_tokens (decoded l.row) l.instruction.operands (get_or l.instruction.operands predicate_slot no_operand)) l.initial.room
+    (row_tokens (decoded l.left) (drop l.held l.instruction.operands) (get_or l.instruction.operands predicate_slot no_operand)) l.next l.room
+    × (row_fits (decoded l.row) l.instruction.operands (get_or l.instruction.operands predicate_slot no_operand) ≡
+    row_fits (decoded l.left) (drop l.held l.instruction.operands) (get_or l.instruction.operands predicate_slot no_operand))
+    × (ordered (decoded l.row) ≡ l.held + ordered (decoded l.left))
+
+abbrev pub decreases-loop-left : goal.decreases-loop-left
+decreases-loop-left l = l.left
+
+abbrev pub invariant-loop-held : goal.invariant-loop-held
+invariant-loop-held l = unused_from l.initial.held l.instruction.operands ≡ unused_from l.held l.instruction.operands
+
+abbrev pub decreases-loop-held : goal.decreases-loop-held
+decreases-loop-held l = predicate_slot - l.held
