@@ -39,10 +39,10 @@ returns-then-fits c =
     let wants = c.asked_by-row.ensures in
     let kind = uniform_of g.version (opcode_of g.first) in
     let passes =
-        passes_by g.version g.first g.behind.now _ _ wants.many some (wants.claims some) (le-leb _ _ c.if-behind-size.false) c.fits.result
-        (c.fits.ensures kind.written kind.read
-        (meant_written g.version g.first g.behind.now _ _ wants.many some (wants.claims some) _ (wants.writes some))
-        (meant_read g.version g.first g.behind.now _ _ wants.many some (wants.claims some) _ (wants.reads some))) in
+    passes_by g.version g.first g.behind.now _ _ wants.many some (wants.claims some) (le-leb _ _ c.if-behind-size.false) c.fits.result
+    (c.fits.ensures kind.written kind.read
+    (meant_written g.version g.first g.behind.now _ _ wants.many some (wants.claims some) _ (wants.writes some))
+    (meant_read g.version g.first g.behind.now _ _ wants.many some (wants.claims some) _ (wants.reads some))) in
     c.yes.ensures
     ∙ yes_fits c.asked_by-row.result.claim (One Plain) (omega (arith, claim_few g.version g.first g.behind.now _ _ wants.many some (wants.claims some)))
     ∙ sym (passes ∙ rw c.if-fits.true refl)
@@ -54,8 +54,8 @@ returns c =
     let wants = c.asked_by-row.ensures in
     let kind = uniform_of g.version (opcode_of g.first) in
     let passes =
-        passes_by g.version g.first g.behind.now _ _ wants.many some (wants.claims some) (le-leb _ _ c.if-behind-size.false) c.fits.result
-        (c.fits.ensures kind.written kind.read
-        (meant_written g.version g.first g.behind.now _ _ wants.many some (wants.claims some) _ (wants.writes some))
-        (meant_read g.version g.first g.behind.now _ _ wants.many some (wants.claims some) _ (wants.reads some))) in
+    passes_by g.version g.first g.behind.now _ _ wants.many some (wants.claims some) (le-leb _ _ c.if-behind-size.false) c.fits.result
+    (c.fits.ensures kind.written kind.read
+    (meant_written g.version g.first g.behind.now _ _ wants.many some (wants.claims some) _ (wants.writes some))
+    (meant_read g.version g.first g.behind.now _ _ wants.many some (wants.claims some) _ (wants.reads some))) in
     sym (passes ∙ rw c.if-fits.false refl)

@@ -1,4 +1,3 @@
-
 use Rattle.faults.proofs.texture_field.Goals as goal
 
 pub returns-then-texture : goal.returns-then-texture

@@ -15,14 +15,14 @@ pub bare_record-requires : goal.bare_record-requires
 bare_record-requires c =
     let g = c.args in
     let row : c.places_in-row.result ≡ places_field (shape_of g.version (opcode_of g.first)) =
-        c.places_in-row.ensures ∙ ap places_field (c.shape_of-shape.ensures ∙ ap (shape_of g.version) c.opcode_of.ensures) in
+    c.places_in-row.ensures ∙ ap places_field (c.shape_of-shape.ensures ∙ ap (shape_of g.version) c.opcode_of.ensures) in
     rw (ne_eqb _ _ c.if-class-eq-COMMENT.false, ne_eqb _ _ c.if-class-eq-END.false, bare_row g.version g.first (sym row ∙ c.if-row-eq0.true)) at c.requires
 
 pub returns-then-row-eq0 : goal.returns-then-row-eq0
 returns-then-row-eq0 c =
     let g = c.args in
     let row : c.places_in-row.result ≡ places_field (shape_of g.version (opcode_of g.first)) =
-        c.places_in-row.ensures ∙ ap places_field (c.shape_of-shape.ensures ∙ ap (shape_of g.version) c.opcode_of.ensures) in
+    c.places_in-row.ensures ∙ ap places_field (c.shape_of-shape.ensures ∙ ap (shape_of g.version) c.opcode_of.ensures) in
     rw (ne_eqb _ _ c.if-class-eq-COMMENT.false, ne_eqb _ _ c.if-class-eq-END.false, bare_row g.version g.first (sym row ∙ c.if-row-eq0.true))
     c.bare_record.ensures
 
@@ -30,7 +30,7 @@ pub instruction_record-requires : goal.instruction_record-requires
 instruction_record-requires c =
     let g = c.args in
     let row : c.places_in-row.result ≡ places_field (shape_of g.version (opcode_of g.first)) =
-        c.places_in-row.ensures ∙ ap places_field (c.shape_of-shape.ensures ∙ ap (shape_of g.version) c.opcode_of.ensures) in
+    c.places_in-row.ensures ∙ ap places_field (c.shape_of-shape.ensures ∙ ap (shape_of g.version) c.opcode_of.ensures) in
     rw row
     (row_readable g.version g.first (λ e. c.if-row-eq0.false (row ∙ e))
     (rw (ne_eqb _ _ c.if-class-eq-COMMENT.false, ne_eqb _ _ c.if-class-eq-END.false) at c.requires))
@@ -39,7 +39,7 @@ pub returns : goal.returns
 returns c =
     let g = c.args in
     let row : c.places_in-row.result ≡ places_field (shape_of g.version (opcode_of g.first)) =
-        c.places_in-row.ensures ∙ ap places_field (c.shape_of-shape.ensures ∙ ap (shape_of g.version) c.opcode_of.ensures) in
+    c.places_in-row.ensures ∙ ap places_field (c.shape_of-shape.ensures ∙ ap (shape_of g.version) c.opcode_of.ensures) in
     rw (
       ne_eqb _ _ c.if-class-eq-COMMENT.false,
       ne_eqb _ _ c.if-class-eq-END.false,

@@ -12,5 +12,8 @@ use Rattle.santubeli.proofs.santubeli_edit.Goals as goal
 pub returns : goal.returns
 returns c =
     let g = c.args in
-    let e = c.edit-edited in record { told = c.edit_answer_of.ensures
-          ∙ ap edit_answer_of (same_edit e.result (edited_in g.buffer.now g.n g.i g.j g.run.now) e.ensures.told); held = e.ensures.held }
+    let e = c.edit-edited in record {
+      told = c.edit_answer_of.ensures
+          ∙ ap edit_answer_of (same_edit e.result (edited_in g.buffer.now g.n g.i g.j g.run.now) e.ensures.told);
+      held = e.ensures.held;
+    }

@@ -1,4 +1,3 @@
-
 use Rattle.walk.proofs.go_if.Goals as goal
 
 pub returns-then-allowed : goal.returns-then-allowed

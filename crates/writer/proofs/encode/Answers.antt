@@ -201,8 +201,8 @@ returns-then-is_whole c =
     let judge = rw (front g.known g.instruction g.lent g.room.now _ (1 + c.put_row-size.result) whole inside) at c.is_whole.ensures in
     let alone = c.if-not-extent-lent.false in
     let reads =
-        whole_passes g.known g.instruction g.lent some (sym judge ∙ c.if-is_whole.true) (omega arith) (fit.passes c.if-size-eq-MISFIT.false)
-        (sym (rw first at c.is_first.ensures) ∙ c.if-not-is_first.false) alone (short g.known g.instruction)
+    whole_passes g.known g.instruction g.lent some (sym judge ∙ c.if-is_whole.true) (omega arith) (fit.passes c.if-size-eq-MISFIT.false)
+    (sym (rw first at c.is_first.ensures) ∙ c.if-not-is_first.false) alone (short g.known g.instruction)
     in
     encodes_other g.known g.instruction g.lent g.room.now _ (1 + c.put_row-size.result) whole inside
     (ne_eqb g.instruction.opcode comment_opcode (no_comment g.known g.instruction g.lent some)) reads

@@ -65,7 +65,7 @@ loop-left-preserved c =
     let step = row_step l.left (omega arith) some l.held operands predicate.result predicate.ensures in
     let test = l.invariant.5 ∙ fits_step l.left (omega arith) some l.held predicate.result predicate.ensures operands in
     let few =
-        operand_few (place_by (l.left % 128)) (get_or operands c.choose-slot.result no_operand) in (
+    operand_few (place_by (l.left % 128)) (get_or operands c.choose-slot.result no_operand) in (
       omega arith,
       put_length put ∙ l.invariant.1,
       held_few predicate.result l.held c.choose-held.result (length (decoded (l.left / 128))) (omega arith) c.choose-held.ensures,

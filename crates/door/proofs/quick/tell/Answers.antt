@@ -23,14 +23,14 @@ pub tell_operands-requires : goal.tell_operands-requires
 tell_operands-requires c =
     let g = c.args in
     let exact =
-        row_is g.version g.first _ c.row_of-row.result _ _ c.has_sizes.ensures c.if-not-has_sizes.false c.opcode_of.ensures c.row_of-row.ensures
-        c.lists.ensures c.if-lists.true in
+    row_is g.version g.first _ c.row_of-row.result _ _ c.has_sizes.ensures c.if-not-has_sizes.false c.opcode_of.ensures c.row_of-row.ensures
+    c.lists.ensures c.if-lists.true in
     (omega arith, exact.known)
 
 pub returns-then-lists : goal.returns-then-lists
 returns-then-lists c some left =
     let g = c.args in
     let exact =
-        row_is g.version g.first _ c.row_of-row.result _ _ c.has_sizes.ensures c.if-not-has_sizes.false c.opcode_of.ensures c.row_of-row.ensures
-        c.lists.ensures c.if-lists.true in
+    row_is g.version g.first _ c.row_of-row.result _ _ c.has_sizes.ensures c.if-not-has_sizes.false c.opcode_of.ensures c.row_of-row.ensures
+    c.lists.ensures c.if-lists.true in
     quick_law g.version g.first _ _ g.behind.now left (omega arith) (sym c.upper_in.ensures ∙ c.if-upper_in-first.false) exact (c.tell_operands.ensures some)
