@@ -10,7 +10,6 @@ use borrow.Author.Tests.{not-true}
 use Rattle.paper.specs.InstructionToken.{opcode_of, is_predicated, with_predicate}
 use Rattle.paper.specs.Blocks.{class_of, classes}
 use Rattle.paper.specs.Instruction.{claimed, Head, token_head, claim, on_claimed, judged}
-use Rattle.paper.specs.Places.{listed, entry_of, Place}
 use Rattle.paper.specs.declared.Version.{Version}
 use Rattle.paper.specs.declared.Single.TheVariants.{Comment}
 use Rattle.paper.specs.declared.Closer.TheVariants.{End}

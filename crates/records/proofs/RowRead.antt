@@ -1,21 +1,21 @@
 -- The row of an instruction, read from its shape: the places but for the predicate's, and where the predicate stands.
 use Prim.Native.Nat.{ℕ, ◌+◌, ◌*◌, ◌/◌, ◌%◌, ◌^◌, ◌<◌, ◌≤◌}
-use mathlib.Core.Path.{◌≡◌, refl, sym, ◌∙◌}
+use mathlib.Core.Path.{◌≡◌, refl, ◌∙◌}
 use mathlib.Core.Bool.{Bool, true, false}
 use mathlib.Core.List.{List, [], ◌∷◌, ◌++◌}
 use native.Mathlib.Omega.{arith}
 use lib.ListN.{length, drop}
 use Rattle.paper.specs.Notation.{pick}
 use Rattle.paper.specs.InstructionToken.{opcode_of, is_predicated, with_predicate}
-use Rattle.paper.specs.Places.{absent, listed, Entry, entry_of, Place, is_predicate, predicate}
+use Rattle.paper.specs.Places.{absent, listed, Entry, entry_of, Place, predicate}
 use Rattle.paper.specs.declared.Version.{Version}
 use Rattle.places.specs.Places.{place_by, types_by, predicated_row, decoded}
 use Rattle.places.proofs.Places.{predicate_place}
 use Rattle.places.proofs.Decoding.{decoded_zero, decoded_step, without_predicate}
-use Rattle.shapes.specs.Shape.{shape_in, shape_of, places_field}
+use Rattle.shapes.specs.Shape.{shape_of, places_field}
 use Rattle.shapes.proofs.Shapes.{shape_places, decoded_digits, row_unpredicated}
 use Rattle.instruction_token.specs.ByShape.{places_by}
-use Rattle.records.specs.Record.{no_operand, width_at, operand_at, in_order, predicate_or, padded, array_of}
+use Rattle.records.specs.Record.{width_at, operand_at, in_order, predicate_or, padded, array_of}
 use Rattle.records.specs.ByClass.{row_of, width_of, ordered, Readable, ReadableRow}
 use Rattle.records.proofs.Rows.{unpredicated_in_order}
 

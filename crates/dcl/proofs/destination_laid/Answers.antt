@@ -1,4 +1,3 @@
-use borrow.Author.Rules.{rules}
 use Rattle.dcl.proofs.destination_laid.Goals as goal
 
 pub returns : goal.returns

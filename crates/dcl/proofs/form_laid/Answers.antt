@@ -1,6 +1,5 @@
 use mathlib.Core.Path.{sym, ◌∙◌}
 use native.Mathlib.Nat.{div-one}
-use borrow.Author.Rules.{rules}
 use borrow.Author.Tests.{ne_eqb}
 use Rattle.dcl.proofs.Declarations.{form_laid_lem}
 use Rattle.dcl.proofs.form_laid.Goals as goal

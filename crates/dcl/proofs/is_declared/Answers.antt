@@ -1,4 +1,3 @@
-use borrow.Author.Rules.{rules}
 use Rattle.paper.specs.OperandTokens.{type_of}
 use Rattle.dcl.proofs.Declarations.{form_declared}
 use Rattle.dcl.proofs.is_declared.Goals as goal

@@ -1,8 +1,6 @@
 use mathlib.Core.Path.{sym, ap, ◌∙◌}
-use borrow.Author.Tests.{not-true, not-false}
 use Rattle.told.specs.Numbered.{operands_number}
 use Rattle.dcl.proofs.Declarations.{no_destination, destination_fault, destination_type, usage_refused, then_rest}
-use borrow.Author.Rules.{rules}
 use Rattle.dcl.proofs.judge_declaration.Goals as goal
 
 pub returns-then-behind-lt2 : goal.returns-then-behind-lt2

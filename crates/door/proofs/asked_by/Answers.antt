@@ -1,7 +1,6 @@
 use mathlib.Core.Path.{sym, ap, ◌∙◌}
 use Rattle.uniform.specs.Uniform.{free_count, first_row}
 use Rattle.instruction_token.specs.ByShape.{unsized_by}
-use borrow.Author.Rules.{rules}
 use Rattle.door.proofs.Asking.{asks_none, asks_free, asks_row}
 use Rattle.door.proofs.asked_by.Goals as goal
 

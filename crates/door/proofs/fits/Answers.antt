@@ -1,16 +1,14 @@
-use Prim.Native.Nat.{ℕ, suc, ◌+◌, ◌*◌, ◌-◌, ◌≤◌}
+use Prim.Native.Nat.{suc, ◌+◌, ◌-◌}
 use mathlib.Core.Path.{◌≡◌, sym, ap, ◌∙◌}
-use mathlib.Core.List.{List, ◌∷◌}
 use native.Mathlib.Omega.{arith}
-use lib.ListN.{length, drop}
+use lib.ListN.{drop}
 use lib.Seq.{drop-drop}
-use Rattle.paper.specs.Places.{Types, destination, source}
+use Rattle.paper.specs.Places.{destination, source}
 use Rattle.paper.specs.Instruction.{operands}
-use Rattle.paper.specs.declared.Version.{Version}
 use Rattle.operands.proofs.OperandAt.{operand_none, operand_within}
 use Rattle.uniform.specs.Uniform.{sources}
-use Rattle.door.specs.Door.{took_in, is_fit, Meant}
-use Rattle.door.proofs.Taking.{Left, fit_refused, taken_is, fit_taken, sources_step, fit_end}
+use Rattle.door.specs.Door.{took_in, is_fit}
+use Rattle.door.proofs.Taking.{fit_refused, taken_is, fit_taken, sources_step, fit_end}
 use Rattle.door.proofs.fits.Goals as goal
 
 pub returns-then-behind-eq0 : goal.returns-then-behind-eq0

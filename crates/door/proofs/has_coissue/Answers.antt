@@ -1,5 +1,4 @@
 use mathlib.Core.Path.{◌∙◌}
-use borrow.Author.Rules.{rules}
 use Rattle.door.proofs.Asking.{coissue_scale}
 use Rattle.door.proofs.has_coissue.Goals as goal
 

@@ -1,4 +1,4 @@
-use mathlib.Core.Path.{◌≡◌, refl, sym, ◌∙◌}
+use mathlib.Core.Path.{refl, sym, ◌∙◌}
 use native.Mathlib.Omega.{arith}
 use lib.Seq.{length-take-le}
 use borrow.Author.Tests.{lt-leb, le-leb}
@@ -6,11 +6,7 @@ use Rattle.paper.specs.InstructionToken.{opcode_of}
 use Rattle.paper.specs.declared.Class.TheVariants.{One}
 use Rattle.paper.specs.declared.Single.TheVariants.{Plain}
 use Rattle.told.proofs.Numbers.{yes_fits}
-use Rattle.paper.specs.Notation.{pick}
 use Rattle.uniform.specs.Uniform.{uniform_of}
-use Rattle.told.specs.Numbered.{yes_number}
-use Rattle.door.specs.Door.{passed}
-use borrow.Author.Rules.{rules}
 use Rattle.door.proofs.Passing.{passes_none, passes_short, passes_by, meant_written, meant_read, claim_few}
 use Rattle.door.proofs.pass.Goals as goal
 

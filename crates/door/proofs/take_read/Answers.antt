@@ -3,7 +3,6 @@ use Prim.Native.Nat.{◌+◌}
 use native.Mathlib.Omega.{arith}
 use lib.ListN.{get_or}
 use Rattle.paper.specs.Places.{source}
-use borrow.Author.Rules.{rules}
 use Rattle.door.proofs.Taking.{read_good, plain_good, operand_bad, operand_one, operand_more, unmarked_brings, plain_brings, read_brings, marked_brings}
 use Rattle.door.proofs.take_read.Goals as goal
 

@@ -1,6 +1,5 @@
 use mathlib.Core.Path.{sym}
 use native.Mathlib.Omega.{arith}
-use borrow.Author.Rules.{rules}
 use Rattle.operands.proofs.OperandAt.{relative_none_lem}
 use Rattle.door.proofs.Taking.{relative_took, relative_refused}
 use Rattle.door.proofs.take_relative.Goals as goal

@@ -3,7 +3,6 @@ use Prim.Native.Nat.{◌+◌}
 use lib.ListN.{get_or}
 use Rattle.paper.specs.Places.{destination}
 use native.Mathlib.Omega.{arith}
-use borrow.Author.Rules.{rules}
 use Rattle.door.proofs.Taking.{written_good, operand_bad, operand_one, operand_more, unmarked_brings, written_brings}
 use Rattle.door.proofs.take_written.Goals as goal
 

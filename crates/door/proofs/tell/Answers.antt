@@ -2,7 +2,6 @@ use Prim.Native.Nat.{◌+◌}
 use mathlib.Core.Path.{◌∙◌}
 use lib.ListN.{length}
 use Rattle.door.proofs.Passing.{door_law}
-use borrow.Author.Rules.{rules}
 use Rattle.door.proofs.tell.Goals as goal
 
 pub returns-then-quickly-ne0 : goal.returns-then-quickly-ne0

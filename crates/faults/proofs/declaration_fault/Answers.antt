@@ -1,4 +1,3 @@
-use borrow.Author.Rules.{rules}
 use Rattle.faults.proofs.declaration_fault.Goals as goal
 
 pub returns-then-in_usage : goal.returns-then-in_usage

@@ -6,7 +6,6 @@ use Rattle.paper.specs.Numbers.{told_token}
 use Rattle.paper.specs.Dcl.{declared_zeros, declared_fields, declared_fault}
 use Rattle.paper.proofs.Bools.{or_false}
 use Rattle.faults.proofs.FaultAt.{fault_sets, declared_agrees, fields_agree}
-use borrow.Author.Rules.{rules}
 use Rattle.faults.proofs.declared_fault.Goals as goal
 
 pub returns : goal.returns

@@ -2,7 +2,6 @@ use mathlib.Core.Path.{sym, ◌∙◌}
 use native.Mathlib.Nat.{div-one}
 use borrow.Author.Tests.{eq-eqb, ne_eqb, le-leb, lt-leb}
 use Rattle.faults.proofs.FaultAt.{face_fields, number_fields, no_fields}
-use borrow.Author.Rules.{rules}
 use Rattle.faults.proofs.declared_fields.Goals as goal
 
 pub returns-then-token-eq15 : goal.returns-then-token-eq15

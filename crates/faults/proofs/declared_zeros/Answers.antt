@@ -1,6 +1,5 @@
 use mathlib.Core.Path.{sym, ◌∙◌}
 use Rattle.faults.proofs.FaultAt.{face_zeros, no_face_zeros}
-use borrow.Author.Rules.{rules}
 use Rattle.faults.proofs.declared_zeros.Goals as goal
 
 pub returns-then-is_face : goal.returns-then-is_face

@@ -2,7 +2,6 @@ use mathlib.Core.Path.{sym, ◌∙◌}
 use Rattle.paper.specs.OperandTokens.{fault_at}
 use Rattle.places.proofs.Places.{predicate_place, relative_place, free_source_place}
 use Rattle.faults.proofs.FaultAt.{written_at, read_at}
-use borrow.Author.Rules.{rules}
 use Rattle.faults.proofs.fault_at.Goals as goal
 
 pub returns-then-is_raw : goal.returns-then-is_raw

@@ -1,5 +1,4 @@
 use borrow.Author.Tests.{eq-eqb, ne_eqb, lt-ltb, le-ltb}
-use borrow.Author.Rules.{rules}
 use Rattle.faults.proofs.fault_by.Goals as goal
 
 pub returns-then-token-eq0 : goal.returns-then-token-eq0

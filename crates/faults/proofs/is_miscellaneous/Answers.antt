@@ -1,4 +1,3 @@
-use borrow.Author.Rules.{rules}
 use Rattle.faults.proofs.is_miscellaneous.Goals as goal
 
 pub returns : goal.returns

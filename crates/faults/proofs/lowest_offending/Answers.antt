@@ -1,7 +1,7 @@
-use mathlib.Core.Path.{◌≡◌, refl, sym, ◌∙◌}
-use Prim.Native.Nat.{◌+◌, ◌-◌, ◌≤◌}
+use mathlib.Core.Path.{refl, sym, ◌∙◌}
+use Prim.Native.Nat.{◌+◌, ◌-◌}
 use native.Mathlib.Omega.{arith}
-use Rattle.paper.specs.Faults.{lowest_from, lowest}
+use Rattle.paper.specs.Faults.{lowest}
 use Rattle.versions.specs.Sets.{holds}
 use Rattle.faults.specs.BySets.{offends_in}
 use Rattle.faults.proofs.FaultAt.{lowest_here, lowest_on, lowest_none}

@@ -1,10 +1,7 @@
-use mathlib.Core.Path.{◌≡◌, refl, sym, ◌∙◌}
-use Prim.Native.Nat.{◌+◌, ◌-◌, ◌≤◌}
-use native.Mathlib.Omega.{arith}
+use mathlib.Core.Path.{◌≡◌}
+use Prim.Native.Nat.{◌-◌, ◌≤◌}
 use Rattle.paper.specs.Faults.{lowest_from, lowest}
-use Rattle.versions.specs.Sets.{holds}
 use Rattle.faults.specs.BySets.{offends_in}
-use Rattle.faults.proofs.FaultAt.{lowest_here, lowest_on, lowest_none}
 use Rattle.faults.proofs.lowest_offending.Given as goal
 
 abbrev pub invariant-loop-bit : goal.invariant-loop-bit

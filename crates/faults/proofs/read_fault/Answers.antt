@@ -6,7 +6,6 @@ use Rattle.paper.specs.Notation.{bit}
 use Rattle.paper.specs.Numbers.{told_token}
 use Rattle.paper.specs.Faults.{span}
 use Rattle.faults.proofs.FaultAt.{fault_sets, common_agrees, none_agrees}
-use borrow.Author.Rules.{rules}
 use Rattle.faults.proofs.read_fault.Goals as goal
 
 pub returns : goal.returns

@@ -8,7 +8,6 @@ use Rattle.paper.specs.Numbers.{told_token}
 use Rattle.paper.specs.Faults.{span, unless}
 use Rattle.paper.specs.OperandTokens.{type_of}
 use Rattle.faults.proofs.FaultAt.{fault_sets, none_agrees, sampler_agrees, plain_agrees, usage_agrees, texture_agrees, used_agrees, usage_forms}
-use borrow.Author.Rules.{rules}
 use Rattle.faults.proofs.usage_fault.Goals as goal
 
 pub returns-then-form-eq-SAMPLER_FORM : goal.returns-then-form-eq-SAMPLER_FORM

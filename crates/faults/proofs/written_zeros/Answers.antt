@@ -1,5 +1,4 @@
 use mathlib.Core.Path.{sym, ◌∙◌}
-use borrow.Author.Rules.{rules}
 use Rattle.faults.proofs.written_zeros.Goals as goal
 
 pub returns-then-scaled : goal.returns-then-scaled

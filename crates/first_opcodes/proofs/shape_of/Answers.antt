@@ -1,11 +1,5 @@
-use mathlib.Core.Path.{◌≡◌}
 use native.Mathlib.Omega.{arith}
-use borrow.Author.Rules.{rules}
 use borrow.Author.Tests.{eq-eqb, ne_eqb}
-use Rattle.paper.specs.Notation.{pick}
-use Rattle.paper.specs.Versions.{has_sizes}
-use Rattle.shapes.specs.Shape.{shape_of}
-use Rattle.first_opcodes.specs.Rows.{early_shape}
 use Rattle.first_opcodes.proofs.Tables.{in_early}
 use Rattle.first_opcodes.proofs.shape_of.Goals as goal
 

@@ -3,7 +3,6 @@ use mathlib.Core.Path.{sym}
 use native.Mathlib.Omega.{arith}
 use borrow.Author.Tests.{le-leb}
 use Rattle.instruction.proofs.Numbers.{there_less}
-use borrow.Author.Rules.{rules}
 use Rattle.instruction.proofs.are_there.Goals as goal
 
 pub returns-then-shown-claimed : goal.returns-then-shown-claimed

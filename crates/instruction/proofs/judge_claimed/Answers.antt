@@ -1,6 +1,5 @@
 use mathlib.Core.Path.{sym, ◌∙◌}
 use borrow.Author.Tests.{eq-eqb, ne_eqb}
-use borrow.Author.Rules.{rules}
 use Rattle.instruction.proofs.judge_claimed.Goals as goal
 
 pub returns-then-opcode_of-eq-DCL : goal.returns-then-opcode_of-eq-DCL

@@ -9,7 +9,6 @@ use Rattle.shapes.specs.Shape.{shape_of}
 use Rattle.instruction_token.specs.ByShape.{bits_by, no_claim, claim_by, claim_if}
 use Rattle.instruction_token.proofs.ByShape.{claim_there, claim_none}
 use Rattle.instruction.proofs.Judging.{judged_unlisted, judged_shaped, class_in_lem}
-use borrow.Author.Rules.{rules}
 use Rattle.instruction.proofs.judge_first.Goals as goal
 
 -- the claim is that of the shape, and tells that the bits are laid out

@@ -11,7 +11,6 @@ use Rattle.told.specs.Numbered.{yes_number}
 use Rattle.told.proofs.Numbers.{yes_fits}
 use Rattle.instruction.specs.Shown.{places_in}
 use Rattle.instruction.proofs.Numbers.{operands_number_lem, operands_refused_number}
-use borrow.Author.Rules.{rules}
 use Rattle.instruction.proofs.judge_listed.Goals as goal
 
 pub returns-then-shown-size : goal.returns-then-shown-size

@@ -6,7 +6,6 @@ use Rattle.paper.specs.declared.Closer.TheVariants.{End}
 use Rattle.paper.specs.declared.Class.TheVariants.{One, Closes}
 use Rattle.told.proofs.Numbers.{yes_fits}
 use Rattle.instruction.specs.Shown.{unlisted_in}
-use borrow.Author.Rules.{rules}
 use Rattle.instruction.proofs.judge_unlisted.Goals as goal
 
 pub returns-then-are_there : goal.returns-then-are_there

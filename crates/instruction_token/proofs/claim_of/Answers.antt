@@ -3,7 +3,6 @@ use borrow.Author.Tests.{eq-eqb, ne_eqb}
 use Rattle.instruction_token.specs.ByShape.{bits_by, claim_if}
 use Rattle.instruction_token.proofs.ByShape.{zeros_claim, bare_laid}
 use Rattle.shapes.specs.Shape.{coissue_in}
-use borrow.Author.Rules.{rules}
 use Rattle.instruction_token.proofs.claim_of.Goals as goal
 
 pub returns-then-rule-eq0 : goal.returns-then-rule-eq0

@@ -1,6 +1,5 @@
 use borrow.Author.Tests.{eq-eqb, ne_eqb}
 use Rattle.instruction_token.specs.ByShape.{places_by}
-use borrow.Author.Rules.{rules}
 use Rattle.instruction_token.proofs.places_of.Goals as goal
 
 pub returns-then-token-eq1 : goal.returns-then-token-eq1

@@ -1,4 +1,3 @@
-use borrow.Author.Rules.{rules}
 use Rattle.instruction_token.proofs.sized_laid.Goals as goal
 
 pub returns : goal.returns

@@ -1,6 +1,5 @@
 use mathlib.Core.Path.{sym, ◌∙◌}
 use borrow.Author.Tests.{eq-eqb, ne_eqb}
-use borrow.Author.Rules.{rules}
 use Rattle.layout.proofs.any_source_laid.Goals as goal
 
 pub returns-then-token-eq0 : goal.returns-then-token-eq0

@@ -1,7 +1,6 @@
 use mathlib.Core.Path.{sym, ◌∙◌}
 use borrow.Author.Tests.{eq-eqb, ne_eqb}
 use Rattle.layout.proofs.Layouts.{destination_order}
-use borrow.Author.Rules.{rules}
 use Rattle.paper.specs.Places.{free_destination}
 use Rattle.layout.proofs.free_destination_laid.Goals as goal
 

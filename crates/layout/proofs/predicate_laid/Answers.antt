@@ -1,5 +1,4 @@
 use mathlib.Core.Path.{refl, sym, ◌∙◌}
-use borrow.Author.Rules.{rules}
 use Rattle.paper.specs.Places.{predicate}
 use Rattle.layout.proofs.Layouts.{unfree_order}
 use Rattle.layout.proofs.predicate_laid.Goals as goal

@@ -1,5 +1,4 @@
 use mathlib.Core.Path.{sym, ◌∙◌}
-use borrow.Author.Rules.{rules}
 use Rattle.layout.proofs.read_laid.Goals as goal
 
 pub returns-then-both_laid : goal.returns-then-both_laid

@@ -1,5 +1,4 @@
 use mathlib.Core.Path.{refl, sym}
-use borrow.Author.Rules.{rules}
 use Rattle.paper.specs.Places.{relative}
 use Rattle.layout.proofs.Layouts.{unfree_order}
 use Rattle.layout.proofs.relative_laid.Goals as goal

@@ -1,5 +1,4 @@
 use borrow.Author.Tests.{eq-eqb, ne_eqb}
-use borrow.Author.Rules.{rules}
 use Rattle.layout.proofs.scale_laid.Goals as goal
 
 pub returns-then-token-eq0 : goal.returns-then-token-eq0

@@ -4,7 +4,6 @@ use borrow.Author.Tests.{eq-eqb, ne_eqb}
 use Rattle.paper.specs.OperandTokens.{modifier_of, type_of}
 use Rattle.versions.specs.Sets.{holds}
 use Rattle.layout.proofs.Layouts.{source_modifier_lem}
-use borrow.Author.Rules.{rules}
 use Rattle.layout.proofs.source_modifier.Goals as goal
 
 pub returns-then-modifier-eq1 : goal.returns-then-modifier-eq1

@@ -2,7 +2,6 @@ use mathlib.Core.Path.{refl, sym, ◌∙◌}
 use Rattle.paper.specs.Places.{declared}
 use Rattle.paper.proofs.Bools.{or_false}
 use Rattle.layout.proofs.Layouts.{destination_order, scaled_order}
-use borrow.Author.Rules.{rules}
 use Rattle.layout.proofs.typed_destination_laid.Goals as goal
 
 pub returns-then-has_shift_scale : goal.returns-then-has_shift_scale

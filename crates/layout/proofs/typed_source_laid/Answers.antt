@@ -1,7 +1,6 @@
 use mathlib.Core.Path.{sym, ◌∙◌}
 use borrow.Author.Tests.{eq-eqb, ne_eqb}
 use Rattle.layout.proofs.Layouts.{source_order}
-use borrow.Author.Rules.{rules}
 use Rattle.paper.specs.Places.{condition}
 use Rattle.layout.proofs.typed_source_laid.Goals as goal
 

@@ -1,6 +1,5 @@
 use mathlib.Core.Path.{◌∙◌}
 use Rattle.notes.proofs.FirstPlace.{begins_destination_lem}
-use borrow.Author.Rules.{rules}
 use Rattle.notes.proofs.begins_destination.Goals as goal
 
 pub returns : goal.returns

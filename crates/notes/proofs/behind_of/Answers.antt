@@ -1,5 +1,4 @@
 use borrow.Author.Tests.{eq-eqb, ne_eqb}
-use borrow.Author.Rules.{rules}
 use Rattle.notes.proofs.behind_of.Goals as goal
 
 pub returns-then-opcode_of-ne-COMMENT : goal.returns-then-opcode_of-ne-COMMENT

@@ -1,4 +1,3 @@
-use borrow.Author.Rules.{rules}
 use Rattle.notes.proofs.is_relative_destination.Goals as goal
 
 pub returns : goal.returns

@@ -1,4 +1,3 @@
-use borrow.Author.Rules.{rules}
 use Rattle.notes.proofs.is_short_sgn.Goals as goal
 
 pub returns : goal.returns

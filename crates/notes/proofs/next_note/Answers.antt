@@ -2,7 +2,6 @@ use mathlib.Core.Path.{ap, sym, ◌∙◌}
 use borrow.Author.Tests.{le-leb, lt-leb}
 use Rattle.paper.proofs.OneToOne.{same_named}
 use Rattle.notes.specs.Noted.{noted, told_noted}
-use borrow.Author.Rules.{rules}
 use Rattle.notes.proofs.next_note.Goals as goal
 
 pub returns-then-tokens-gt-MOST_TOKENS : goal.returns-then-tokens-gt-MOST_TOKENS

@@ -1,16 +1,12 @@
-use mathlib.Core.Path.{◌≡◌, refl, sym, ◌∙◌}
+use mathlib.Core.Path.{refl, sym, ◌∙◌}
 use mathlib.Core.Bool.{true, false}
-use Prim.Native.Nat.{ℕ, ◌+◌, ◌-◌, ◌<◌}
+use Prim.Native.Nat.{◌-◌}
 use native.Mathlib.Omega.{arith}
-use lib.ListN.{length}
-use Rattle.paper.specs.Stream.{cut_from}
-use Rattle.paper.specs.Numbers.{reason_by, refusal_at_bit}
+use Rattle.paper.specs.Numbers.{reason_by}
 use Rattle.paper.proofs.OneToOne.{same_reason}
-use Rattle.told.specs.Numbered.{number_in, bit_in, position_in}
-use Rattle.notes.specs.declared.Noted.TheVariants.{Refused}
-use Rattle.notes.specs.Noted.{noted_in, noted_from}
-use Rattle.notes.proofs.Search.{Turned, search_none, search_refused, refused_inside, search_good, good_inside}
-use borrow.Author.Rules.{rules}
+use Rattle.told.specs.Numbered.{number_in}
+use Rattle.notes.specs.Noted.{noted_from}
+use Rattle.notes.proofs.Search.{search_none, search_refused, refused_inside, search_good, good_inside}
 use Rattle.notes.proofs.note_from.Goals as goal
 
 pub loop-at-init : goal.loop-at-init

@@ -1,16 +1,8 @@
-use mathlib.Core.Path.{◌≡◌, refl, sym, ◌∙◌}
-use mathlib.Core.Bool.{true, false}
-use Prim.Native.Nat.{ℕ, ◌+◌, ◌-◌, ◌<◌}
-use native.Mathlib.Omega.{arith}
+use mathlib.Core.Path.{◌≡◌}
+use Prim.Native.Nat.{◌-◌}
 use lib.ListN.{length}
 use Rattle.paper.specs.Stream.{cut_from}
-use Rattle.paper.specs.Numbers.{reason_by, refusal_at_bit}
-use Rattle.paper.proofs.OneToOne.{same_reason}
-use Rattle.told.specs.Numbered.{number_in, bit_in, position_in}
-use Rattle.notes.specs.declared.Noted.TheVariants.{Refused}
 use Rattle.notes.specs.Noted.{noted_in, noted_from}
-use Rattle.notes.proofs.Search.{Turned, search_none, search_refused, refused_inside, search_good, good_inside}
-use borrow.Author.Rules.{rules}
 use Rattle.notes.proofs.note_from.Given as goal
 
 abbrev pub invariant-loop-at : goal.invariant-loop-at

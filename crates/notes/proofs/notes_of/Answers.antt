@@ -1,5 +1,4 @@
 use borrow.Author.Tests.{eq-eqb, ne_eqb}
-use borrow.Author.Rules.{rules}
 use Rattle.notes.proofs.notes_of.Goals as goal
 
 pub returns-then-opcode-eq-COMMENT : goal.returns-then-opcode-eq-COMMENT

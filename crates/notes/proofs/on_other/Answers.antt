@@ -1,5 +1,4 @@
 use Rattle.notes.specs.NotedShapes.{on_other}
-use borrow.Author.Rules.{rules}
 use Rattle.notes.proofs.on_other.Goals as goal
 
 pub returns : goal.returns

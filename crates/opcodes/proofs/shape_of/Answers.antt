@@ -1,5 +1,4 @@
 use mathlib.Core.Path.{sym, ◌∙◌}
-use borrow.Author.Rules.{rules}
 use Rattle.opcodes.proofs.shape_of.Goals as goal
 
 pub base_shape-requires : goal.base_shape-requires

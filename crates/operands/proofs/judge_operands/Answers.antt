@@ -1,10 +1,9 @@
-use mathlib.Core.Path.{◌≡◌, refl, sym, ap, ◌∙◌}
-use Prim.Native.Nat.{◌+◌, ◌*◌, ◌%◌, ◌≤◌}
+use mathlib.Core.Path.{refl, sym, ap, ◌∙◌}
+use Prim.Native.Nat.{◌+◌, ◌%◌}
 use native.Mathlib.Omega.{arith}
-use borrow.Author.Rules.{rules}
-use lib.ListN.{length, drop}
-use Rattle.paper.specs.Instruction.{operand, operands}
-use Rattle.places.specs.Places.{place_by, decoded}
+use lib.ListN.{drop}
+use Rattle.paper.specs.Instruction.{operand}
+use Rattle.places.specs.Places.{place_by}
 use Rattle.told.specs.Numbered.{operands_number}
 use Rattle.told.proofs.Numbers.{taken_even, taken_odd}
 use Rattle.operands.proofs.OperandAt.{operand_within, operand_few, decoded_few, decoded_less, operands_on, operands_refused, operands_fit, operands_over}

@@ -1,13 +1,8 @@
-use mathlib.Core.Path.{◌≡◌, refl, sym, ap, ◌∙◌}
-use Prim.Native.Nat.{◌+◌, ◌*◌, ◌%◌, ◌≤◌}
-use native.Mathlib.Omega.{arith}
-use borrow.Author.Rules.{rules}
+use mathlib.Core.Path.{◌≡◌}
+use Prim.Native.Nat.{◌+◌, ◌*◌, ◌≤◌}
 use lib.ListN.{length, drop}
-use Rattle.paper.specs.Instruction.{operand, operands}
-use Rattle.places.specs.Places.{place_by, decoded}
-use Rattle.told.specs.Numbered.{operands_number}
-use Rattle.told.proofs.Numbers.{taken_even, taken_odd}
-use Rattle.operands.proofs.OperandAt.{operand_within, operand_few, decoded_few, decoded_less, operands_on, operands_refused, operands_fit, operands_over}
+use Rattle.paper.specs.Instruction.{operands}
+use Rattle.places.specs.Places.{decoded}
 use Rattle.operands.proofs.judge_operands.Given as goal
 
 abbrev pub invariant-loop-left : goal.invariant-loop-left

@@ -4,7 +4,6 @@ use Rattle.paper.specs.Numbers.{told_token}
 use Rattle.places.specs.Places.{place_by}
 use Rattle.told.specs.Numbered.{fault_number}
 use Rattle.tokens.proofs.TokenAt.{brief_mislaid, brief_type}
-use borrow.Author.Rules.{rules}
 use Rattle.operands.proofs.refused_at.Goals as goal
 
 pub returns-then-told-eq-MISLAID : goal.returns-then-told-eq-MISLAID

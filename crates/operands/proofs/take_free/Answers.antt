@@ -1,6 +1,5 @@
 use native.Mathlib.Omega.{arith}
 use borrow.Author.Tests.{eq-eqb, ne_eqb}
-use borrow.Author.Rules.{rules}
 use Rattle.operands.proofs.take_free.Goals as goal
 
 pub refused_at-requires : goal.refused_at-requires

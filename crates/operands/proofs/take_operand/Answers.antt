@@ -9,7 +9,6 @@ use Rattle.places.specs.Places.{place_by}
 use Rattle.tokens.specs.Brief.{brief}
 use Rattle.places.proofs.Places.{free_destination_place, free_source_place}
 use Rattle.places.proofs.PlaceKinds.{not_free}
-use borrow.Author.Rules.{rules}
 use Rattle.operands.proofs.take_operand.Goals as goal
 
 pub returns-then-behind-at : goal.returns-then-behind-at

@@ -4,7 +4,6 @@ use native.Mathlib.Omega.{arith}
 use borrow.Author.Tests.{ne_eqb}
 use Rattle.places.proofs.Places.{relative_place}
 use Rattle.operands.proofs.OperandAt.{relative_none_lem, relative_number}
-use borrow.Author.Rules.{rules}
 use Rattle.operands.proofs.take_relative.Goals as goal
 
 pub returns-then-behind-at : goal.returns-then-behind-at

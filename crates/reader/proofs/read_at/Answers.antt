@@ -6,8 +6,7 @@ use Rattle.paper.specs.Numbers.{reason_by}
 use Rattle.told.specs.Numbered.{number_in}
 use Rattle.paper.proofs.OneToOne.{same_reason}
 use Rattle.reader.specs.Reading.{reading_at}
-use Rattle.reader.proofs.Steps.{Got, Unread, reads_good, reads_refused}
-use borrow.Author.Rules.{rules}
+use Rattle.reader.proofs.Steps.{reads_good, reads_refused}
 use Rattle.reader.proofs.read_at.Goals as goal
 
 pub returns-then-tokens-at : goal.returns-then-tokens-at

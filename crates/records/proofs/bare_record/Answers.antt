@@ -1,12 +1,9 @@
-use Prim.Native.Nat.{◌+◌, ◌≤◌}
 use mathlib.Core.Bool.{true, false}
 use mathlib.Core.Path.{◌≡◌, refl}
 use native.Mathlib.Omega.{arith}
 use native.Mathlib.Nat.{div-one}
-use lib.ListN.{length, drop}
 use borrow.Author.Tests.{eq-eqb, ne_eqb}
 use Rattle.paper.specs.InstructionToken.{is_predicated}
-use Rattle.paper.specs.Places.{predicate}
 use Rattle.places.specs.Places.{place_by}
 use Rattle.places.proofs.Places.{predicate_place}
 use Rattle.places.proofs.Decoding.{decoded_zero}

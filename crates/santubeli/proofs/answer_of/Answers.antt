@@ -1,4 +1,3 @@
-use borrow.Author.Rules.{rules}
 use Rattle.santubeli.proofs.answer_of.Goals as goal
 
 pub returns-in-Accepted : goal.returns-in-Accepted

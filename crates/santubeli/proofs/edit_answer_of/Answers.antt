@@ -1,4 +1,3 @@
-use borrow.Author.Rules.{rules}
 use Rattle.santubeli.proofs.edit_answer_of.Goals as goal
 
 -- src/lib.rt:106:24

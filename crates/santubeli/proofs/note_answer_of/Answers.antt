@@ -1,4 +1,3 @@
-use borrow.Author.Rules.{rules}
 use Rattle.santubeli.proofs.note_answer_of.Goals as goal
 
 pub returns-in-Found : goal.returns-in-Found

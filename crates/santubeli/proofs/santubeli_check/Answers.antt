@@ -4,7 +4,6 @@ use lib.ListN.{length}
 use mathlib.Core.Path.{ap, ◌∙◌}
 use Rattle.santubeli.specs.Entries.{answer_of}
 use Rattle.paper.proofs.OneToOne.{same_verdict}
-use borrow.Author.Rules.{rules}
 use Rattle.santubeli.proofs.santubeli_check.Goals as goal
 
 pub returns : goal.returns

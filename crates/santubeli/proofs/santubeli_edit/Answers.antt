@@ -2,7 +2,6 @@ use mathlib.Core.Path.{ap, ◌∙◌}
 use Rattle.edit.specs.Edit.{edited_in}
 use Rattle.edit.proofs.OneAnswer.{same_edit}
 use Rattle.santubeli.specs.Entries.{edit_answer_of}
-use borrow.Author.Rules.{rules}
 use Rattle.santubeli.proofs.santubeli_edit.Goals as goal
 
 -- src/lib.rt:135:9

@@ -2,7 +2,6 @@ use mathlib.Core.Path.{ap, ◌∙◌}
 use Rattle.notes.specs.Noted.{noted}
 use Rattle.notes.proofs.OneAnswer.{same_noted}
 use Rattle.santubeli.specs.Entries.{note_answer_of}
-use borrow.Author.Rules.{rules}
 use Rattle.santubeli.proofs.santubeli_note.Goals as goal
 
 pub returns : goal.returns

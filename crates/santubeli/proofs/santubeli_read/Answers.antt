@@ -1,5 +1,4 @@
 use Rattle.reader.proofs.ReadingUnique.{told_one}
-use borrow.Author.Rules.{rules}
 use Rattle.santubeli.proofs.santubeli_read.Goals as goal
 
 pub returns-in-Got : goal.returns-in-Got

@@ -1,4 +1,3 @@
-use borrow.Author.Rules.{rules}
 use Rattle.santubeli.proofs.write_answer_of.Goals as goal
 
 pub returns-in-Wrote : goal.returns-in-Wrote

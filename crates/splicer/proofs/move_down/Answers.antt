@@ -1,8 +1,7 @@
-use Prim.Native.Nat.{◌≤◌, ◌-◌}
-use mathlib.Core.Path.{◌≡◌, refl}
+use Prim.Native.Nat.{◌-◌}
+use mathlib.Core.Path.{refl}
 use native.Mathlib.Omega.{arith}
-use lib.ListN.{length, take, drop, length-take}
-use lib.Seq.{sets}
+use lib.ListN.{take, drop, length-take}
 use borrow.Author.Rules.{rules}
 use Rattle.lists.proofs.Stores.{one_behind, all_behind, part_length}
 use Rattle.splicer.proofs.Moving.{unreached}

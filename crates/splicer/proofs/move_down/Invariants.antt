@@ -1,11 +1,7 @@
 use Prim.Native.Nat.{◌≤◌, ◌-◌}
-use mathlib.Core.Path.{◌≡◌, refl}
-use native.Mathlib.Omega.{arith}
-use lib.ListN.{length, take, drop, length-take}
+use mathlib.Core.Path.{◌≡◌}
+use lib.ListN.{length, take, drop}
 use lib.Seq.{sets}
-use borrow.Author.Rules.{rules}
-use Rattle.lists.proofs.Stores.{one_behind, all_behind, part_length}
-use Rattle.splicer.proofs.Moving.{unreached}
 use Rattle.splicer.proofs.move_down.Given as goal
 
 abbrev pub invariant-loop-moved : goal.invariant-loop-moved

@@ -1,6 +1,5 @@
 use native.Mathlib.Omega.{arith}
 use Rattle.splicer.proofs.Moving.{stayed}
-use borrow.Author.Rules.{rules}
 use Rattle.splicer.proofs.move_tokens.Goals as goal
 
 pub returns : goal.returns

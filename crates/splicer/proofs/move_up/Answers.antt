@@ -3,7 +3,6 @@ use mathlib.Core.Path.{◌≡◌}
 use native.Mathlib.Nat.{add-zero}
 use native.Mathlib.Omega.{arith}
 use lib.ListN.{length, take, drop, drop_of_length-le}
-use lib.Seq.{sets}
 use borrow.Author.Rules.{rules}
 use Rattle.lists.proofs.Stores.{one_before, part_length}
 use Rattle.splicer.proofs.Moving.{unreached}

@@ -1,12 +1,7 @@
-use Prim.Native.Nat.{suc, ◌+◌, ◌≤◌, ◌-◌}
+use Prim.Native.Nat.{◌+◌, ◌≤◌, ◌-◌}
 use mathlib.Core.Path.{◌≡◌}
-use native.Mathlib.Nat.{add-zero}
-use native.Mathlib.Omega.{arith}
-use lib.ListN.{length, take, drop, drop_of_length-le}
+use lib.ListN.{length, take, drop}
 use lib.Seq.{sets}
-use borrow.Author.Rules.{rules}
-use Rattle.lists.proofs.Stores.{one_before, part_length}
-use Rattle.splicer.proofs.Moving.{unreached}
 use Rattle.splicer.proofs.move_up.Given as goal
 
 abbrev pub invariant-loop-left : goal.invariant-loop-left

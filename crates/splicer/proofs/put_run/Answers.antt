@@ -1,7 +1,6 @@
 use mathlib.Core.Path.{◌∙◌}
 use native.Mathlib.Omega.{arith}
 use Rattle.splicer.proofs.Moving.{run_put}
-use borrow.Author.Rules.{rules}
 use Rattle.splicer.proofs.put_run.Goals as goal
 
 pub returns : goal.returns

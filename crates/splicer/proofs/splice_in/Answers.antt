@@ -2,7 +2,6 @@ use mathlib.Core.Path.{sym, ◌∙◌}
 use native.Mathlib.Omega.{arith}
 use lib.ListN.{length}
 use borrow.Author.Tests.{le-leb, lt-leb}
-use borrow.Author.Rules.{rules}
 use Rattle.edit.specs.Edit.{new_length}
 use Rattle.splicer.specs.Splicing.{spliced_in}
 use Rattle.splicer.proofs.Answers.{run_taken}

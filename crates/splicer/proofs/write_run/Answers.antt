@@ -1,8 +1,6 @@
-use Prim.Native.Nat.{◌≤◌, ◌-◌}
-use mathlib.Core.Path.{◌≡◌, refl}
+use Prim.Native.Nat.{◌-◌}
+use mathlib.Core.Path.{refl}
 use native.Mathlib.Omega.{arith}
-use lib.ListN.{length, take}
-use lib.Seq.{sets}
 use borrow.Author.Rules.{rules}
 use Rattle.lists.proofs.Stores.{one_behind, all_behind}
 use Rattle.splicer.proofs.write_run.Goals as goal

@@ -1,10 +1,7 @@
 use Prim.Native.Nat.{◌≤◌, ◌-◌}
-use mathlib.Core.Path.{◌≡◌, refl}
-use native.Mathlib.Omega.{arith}
+use mathlib.Core.Path.{◌≡◌}
 use lib.ListN.{length, take}
 use lib.Seq.{sets}
-use borrow.Author.Rules.{rules}
-use Rattle.lists.proofs.Stores.{one_behind, all_behind}
 use Rattle.splicer.proofs.write_run.Given as goal
 
 abbrev pub invariant-loop-written : goal.invariant-loop-written

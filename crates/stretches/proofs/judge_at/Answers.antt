@@ -1,7 +1,6 @@
 use mathlib.Core.Path.{ap, ◌∙◌}
 use Rattle.stretches.specs.Stretch.{told_at}
 use Rattle.stretches.proofs.Stretches.{leads_one}
-use borrow.Author.Rules.{rules}
 use Rattle.stretches.proofs.judge_at.Goals as goal
 
 pub returns : goal.returns

@@ -1,12 +1,9 @@
-use mathlib.Core.Path.{◌≡◌, refl, sym, ◌∙◌}
+use mathlib.Core.Path.{refl, sym, ◌∙◌}
 use mathlib.Core.Bool.{true}
-use Prim.Native.Nat.{ℕ, ◌+◌, ◌-◌, ◌≤◌, ◌<◌}
+use Prim.Native.Nat.{◌-◌, ◌<◌}
 use native.Mathlib.Omega.{arith}
-use lib.ListN.{length}
-use borrow.Author.Tests.{not-true, not-false}
-use Rattle.stretches.specs.Stretch.{next_at, PlainTo, here}
+use Rattle.stretches.specs.Stretch.{next_at, here}
 use Rattle.stretches.proofs.Stretches.{told_none, turn_inside, turn_on, turn_last, turn_stop}
-use borrow.Author.Rules.{rules}
 use Rattle.stretches.proofs.judge_stretch.Goals as goal
 
 pub loop-at-init : goal.loop-at-init

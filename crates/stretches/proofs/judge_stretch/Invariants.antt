@@ -1,12 +1,6 @@
-use mathlib.Core.Path.{◌≡◌, refl, sym, ◌∙◌}
-use mathlib.Core.Bool.{true}
-use Prim.Native.Nat.{ℕ, ◌+◌, ◌-◌, ◌≤◌, ◌<◌}
-use native.Mathlib.Omega.{arith}
+use Prim.Native.Nat.{◌-◌, ◌≤◌}
 use lib.ListN.{length}
-use borrow.Author.Tests.{not-true, not-false}
-use Rattle.stretches.specs.Stretch.{next_at, PlainTo, here}
-use Rattle.stretches.proofs.Stretches.{told_none, turn_inside, turn_on, turn_last, turn_stop}
-use borrow.Author.Rules.{rules}
+use Rattle.stretches.specs.Stretch.{PlainTo}
 use Rattle.stretches.proofs.judge_stretch.Given as goal
 
 abbrev pub invariant-loop-at : goal.invariant-loop-at

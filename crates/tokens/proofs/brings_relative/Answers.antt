@@ -1,4 +1,3 @@
-use borrow.Author.Rules.{rules}
 use Rattle.tokens.proofs.brings_relative.Goals as goal
 
 pub returns : goal.returns

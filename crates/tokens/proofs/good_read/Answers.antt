@@ -1,5 +1,4 @@
 use mathlib.Core.Path.{sym, ◌∙◌}
-use borrow.Author.Rules.{rules}
 use Rattle.tokens.proofs.good_read.Goals as goal
 
 pub returns-then-any_source_laid : goal.returns-then-any_source_laid

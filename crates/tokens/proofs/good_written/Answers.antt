@@ -1,7 +1,6 @@
 use mathlib.Core.Path.{sym, ◌∙◌}
 use Rattle.paper.specs.Places.{free}
 use Rattle.tokens.proofs.TokenAt.{plain_destination_laid}
-use borrow.Author.Rules.{rules}
 use Rattle.tokens.proofs.good_written.Goals as goal
 
 pub returns-then-plain_destination : goal.returns-then-plain_destination

@@ -2,7 +2,6 @@ use mathlib.Core.Path.{sym, ◌∙◌}
 use Rattle.paper.specs.Places.{free}
 use Rattle.tokens.proofs.TokenAt.{plain_destination_laid}
 use Rattle.versions.proofs.Types.{destination_types}
-use borrow.Author.Rules.{rules}
 use Rattle.tokens.proofs.judge_destination.Goals as goal
 
 pub returns-then-plain_destination : goal.returns-then-plain_destination

@@ -1,5 +1,4 @@
 use mathlib.Core.Path.{sym, ◌∙◌}
-use borrow.Author.Rules.{rules}
 use Rattle.tokens.proofs.judge_relative.Goals as goal
 
 pub returns-then-relative_laid : goal.returns-then-relative_laid

@@ -2,7 +2,6 @@ use mathlib.Core.Path.{sym, ◌∙◌}
 use Rattle.paper.specs.Places.{free}
 use Rattle.tokens.proofs.TokenAt.{plain_source_laid}
 use Rattle.versions.proofs.Types.{source_types}
-use borrow.Author.Rules.{rules}
 use Rattle.tokens.proofs.judge_source.Goals as goal
 
 pub returns-then-plain_source : goal.returns-then-plain_source

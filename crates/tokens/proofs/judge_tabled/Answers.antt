@@ -1,6 +1,5 @@
 use mathlib.Core.Path.{sym, ◌∙◌}
 use Rattle.tokens.proofs.TokenAt.{types_tabled, of_its_types}
-use borrow.Author.Rules.{rules}
 use Rattle.tokens.proofs.judge_tabled.Goals as goal
 
 pub returns-then-tabled_laid : goal.returns-then-tabled_laid

@@ -1,5 +1,4 @@
 use mathlib.Core.Path.{sym, ◌∙◌}
-use borrow.Author.Rules.{rules}
 use Rattle.places.specs.Places.{place_by}
 use Rattle.places.proofs.Places.{free_source_place, free_destination_place}
 use Rattle.places.proofs.PlaceKinds.{not_free}

@@ -2,7 +2,6 @@ use Prim.Native.Nat.{◌<◌}
 use mathlib.Core.Path.{◌∙◌}
 use native.Mathlib.Nat.{mod-lt}
 use lib.Dec.{lit<}
-use borrow.Author.Rules.{rules}
 use Rattle.places.specs.Places.{only_type}
 use Rattle.paper.specs.OperandTokens.{type_of}
 use Rattle.versions.proofs.Sets.{one_among}

@@ -1,5 +1,4 @@
 use mathlib.Core.Path.{sym, ◌∙◌}
-use borrow.Author.Rules.{rules}
 use Rattle.tokens.proofs.plain_at.Goals as goal
 
 pub returns-then-is_destination : goal.returns-then-is_destination

@@ -1,6 +1,5 @@
 use mathlib.Core.Path.{sym, ◌∙◌}
 use Rattle.tokens.proofs.TokenAt.{plain_laid, of_its_kind}
-use borrow.Author.Rules.{rules}
 use Rattle.tokens.proofs.tabled_laid.Goals as goal
 
 pub returns-then-plain_at : goal.returns-then-plain_at

@@ -1,5 +1,4 @@
 use mathlib.Core.Path.{sym, ◌∙◌}
-use borrow.Author.Rules.{rules}
 use Rattle.tokens.proofs.told_by_type.Goals as goal
 
 pub returns-then-type_in : goal.returns-then-type_in

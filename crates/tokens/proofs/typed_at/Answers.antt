@@ -1,5 +1,4 @@
 use mathlib.Core.Path.{sym, ◌∙◌}
-use borrow.Author.Rules.{rules}
 use Rattle.places.proofs.Places.{condition_place, predicate_place, relative_place, declared_place}
 use Rattle.tokens.proofs.TokenAt.{typed_at, untabled, predicate_types_lem}
 use Rattle.tokens.proofs.typed_at.Goals as goal

@@ -1,6 +1,5 @@
 use mathlib.Core.Path.{sym, ◌∙◌}
 use native.Mathlib.Omega.{arith}
-use borrow.Author.Rules.{rules}
 use Rattle.places.proofs.Places.{predicate_place, relative_place}
 use Rattle.tokens.proofs.TokenAt.{typed_destination_at, typed_source_at}
 use Rattle.tokens.proofs.typed_laid.Goals as goal

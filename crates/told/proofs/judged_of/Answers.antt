@@ -1,4 +1,4 @@
-use Rattle.std.proofs.Common.{sym, ◌∙◌, rules}
+use Rattle.std.proofs.Common.{sym, ◌∙◌}
 use Rattle.told.specs.Numbered.{judged_from}
 use Rattle.told.proofs.judged_of.Goals as goal
 

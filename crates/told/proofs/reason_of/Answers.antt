@@ -1,4 +1,4 @@
-use Rattle.std.proofs.Common.{ap, rules}
+use Rattle.std.proofs.Common.{ap}
 use Rattle.paper.specs.Numbers.{number_of}
 use Rattle.told.proofs.reason_of.Goals as goal
 

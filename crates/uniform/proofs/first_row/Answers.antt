@@ -1,6 +1,5 @@
 use mathlib.Core.Path.{sym, ◌∙◌}
 use native.Mathlib.Omega.{arith}
-use borrow.Author.Rules.{rules}
 use borrow.Author.Tests.{lt-ltb, le-ltb}
 use Rattle.uniform.proofs.Tables.{rank_few, sized_rank, row_found}
 use Rattle.uniform.proofs.first_row.Goals as goal

@@ -1,6 +1,5 @@
 use mathlib.Core.Path.{◌≡◌}
 use native.Mathlib.Omega.{arith}
-use borrow.Author.Rules.{rules}
 use borrow.Author.Tests.{eq-eqb, ne_eqb}
 use Rattle.uniform.specs.Uniform.{free_count}
 use Rattle.uniform.proofs.Tables.{rank_few, found, count_found}

@@ -1,4 +1,3 @@
-use borrow.Author.Rules.{rules}
 use borrow.Author.Tests.{eq-eqb, ne_eqb}
 use Rattle.versions.proofs.Types.{condition_type}
 use Rattle.versions.proofs.condition_typed.Goals as goal

@@ -1,4 +1,3 @@
-use borrow.Author.Rules.{rules}
 use Rattle.versions.proofs.Types.{type_small}
 use Rattle.versions.proofs.form_of.Goals as goal
 

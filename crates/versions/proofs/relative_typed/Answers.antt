@@ -1,4 +1,3 @@
-use borrow.Author.Rules.{rules}
 use borrow.Author.Tests.{ne_eqb}
 use Rattle.versions.proofs.Types.{relative_type}
 use Rattle.versions.proofs.relative_typed.Goals as goal

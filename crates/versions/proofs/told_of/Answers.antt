@@ -1,4 +1,3 @@
-use borrow.Author.Rules.{rules}
 use Rattle.versions.proofs.Rows.{tells}
 use Rattle.versions.proofs.told_of.Goals as goal
 

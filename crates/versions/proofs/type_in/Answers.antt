@@ -1,5 +1,4 @@
 use Rattle.versions.specs.Sets.{holds}
-use borrow.Author.Rules.{rules}
 use Rattle.versions.proofs.type_in.Goals as goal
 
 pub returns : goal.returns

@@ -1,5 +1,4 @@
 use mathlib.Core.Path.{ap}
-use borrow.Author.Rules.{rules}
 use Rattle.paper.specs.Numbers.{told_named}
 use Rattle.versions.proofs.Names.{names_named}
 use Rattle.versions.proofs.version_of.Goals as goal

@@ -1,4 +1,3 @@
-use Rattle.std.proofs.Common.{rules}
 use Rattle.walk.proofs.behind_of.Goals as goal
 
 pub returns : goal.returns

@@ -1,4 +1,4 @@
-use Rattle.std.proofs.Common.{rules, eq-eqb, ne_eqb}
+use Rattle.std.proofs.Common.{eq-eqb, ne_eqb}
 use Rattle.walk.proofs.close_in.Goals as goal
 
 pub returns-then-innermost-eq-IF : goal.returns-then-innermost-eq-IF

@@ -1,4 +1,4 @@
-use Rattle.std.proofs.Common.{rules, le-ltb, lt-ltb}
+use Rattle.std.proofs.Common.{le-ltb, lt-ltb}
 use Rattle.walk.proofs.end_of.Goals as goal
 
 pub returns-then-state-tokens : goal.returns-then-state-tokens

@@ -1,5 +1,4 @@
-use Rattle.std.proofs.Common.{◌≡◌, ◌≤◌, sym, refl, ◌∙◌, arith}
-use Rattle.walk.specs.Kinds.{in_loop_by}
+use Rattle.std.proofs.Common.{sym, refl, ◌∙◌, arith}
 use Rattle.walk.proofs.OpenBlocks.{loop_none, loop_first}
 use Rattle.walk.proofs.in_loop.Goals as goal
 

@@ -1,6 +1,5 @@
-use Rattle.std.proofs.Common.{◌≡◌, ◌≤◌, sym, refl, ◌∙◌, arith}
+use Rattle.std.proofs.Common.{◌≡◌, ◌≤◌}
 use Rattle.walk.specs.Kinds.{in_loop_by}
-use Rattle.walk.proofs.OpenBlocks.{loop_none, loop_first}
 use Rattle.walk.proofs.in_loop.Given as goal
 
 abbrev pub invariant-loop-left : goal.invariant-loop-left

@@ -1,5 +1,4 @@
 use Rattle.paper.proofs.OneToOne.{same_instruction}
-use Rattle.std.proofs.Common.{rules}
 use Rattle.walk.proofs.moved.Goals as goal
 
 pub returns-in-Refused : goal.returns-in-Refused

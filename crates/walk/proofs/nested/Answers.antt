@@ -1,4 +1,4 @@
-use Rattle.std.proofs.Common.{sym, ◌∙◌, rules}
+use Rattle.std.proofs.Common.{sym, ◌∙◌}
 use Rattle.walk.proofs.nested.Goals as goal
 
 pub returns-in-Go : goal.returns-in-Go

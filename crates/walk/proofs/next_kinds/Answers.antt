@@ -1,4 +1,3 @@
-use Rattle.std.proofs.Common.{rules}
 use Rattle.walk.proofs.next_kinds.Goals as goal
 
 pub returns-in-One : goal.returns-in-One

@@ -1,4 +1,4 @@
-use Rattle.std.proofs.Common.{rules, le-ltb, lt-ltb}
+use Rattle.std.proofs.Common.{le-ltb, lt-ltb}
 use Rattle.walk.proofs.open_in.Goals as goal
 
 pub returns-in-If : goal.returns-in-If

@@ -1,4 +1,4 @@
-use Rattle.std.proofs.Common.{arith, rules}
+use Rattle.std.proofs.Common.{arith}
 use Rattle.walk.proofs.Stretching.{leads_ahead}
 use Rattle.walk.proofs.pass.Goals as goal
 

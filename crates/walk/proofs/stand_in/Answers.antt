@@ -1,4 +1,3 @@
-use Rattle.std.proofs.Common.{rules}
 use Rattle.walk.proofs.stand_in.Goals as goal
 
 pub returns-in-Comment : goal.returns-in-Comment

@@ -1,4 +1,4 @@
-use Rattle.std.proofs.Common.{ap, rules}
+use Rattle.std.proofs.Common.{ap}
 use Rattle.walk.specs.Steps.{told_step}
 use Rattle.walk.proofs.step_over.Goals as goal
 

@@ -1,4 +1,3 @@
-use Rattle.std.proofs.Common.{rules}
 use Rattle.walk.proofs.verdict_of.Goals as goal
 
 pub returns-in-On : goal.returns-in-On

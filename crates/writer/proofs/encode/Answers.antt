@@ -12,18 +12,15 @@ use Rattle.paper.specs.Notation.{pick}
 use Rattle.paper.specs.InstructionToken.{comment_opcode}
 use Rattle.paper.specs.declared.Version.{Version}
 use Rattle.paper.proofs.Bools.{both_right}
-use Rattle.places.specs.Places.{decoded}
 use Rattle.shapes.specs.Shape.{shape_of}
 use Rattle.records.specs.declared.Record.{Record}
 use Rattle.records.specs.Record.{operand_count, predicate_slot, no_operand}
 use Rattle.record_tokens.specs.Tokens.{instruction_token, tokens_behind}
 use Rattle.writer.specs.Buffer.{word, Put}
-use Rattle.writer.specs.Row.{most_encoded, row_number, row_of, encoded_tokens}
-use Rattle.writer.specs.Laid.{misfit, PutIf}
+use Rattle.writer.specs.Row.{most_encoded, row_of, encoded_tokens}
 use Rattle.writer.proofs.Paste.{put_length, lent_length, put_first}
 use Rattle.writer.proofs.Row.{tokens_few}
 use Rattle.writer.proofs.Listed.{row_few, other_encoded}
-use Rattle.writer.proofs.LaidRecord.{laid}
 use Rattle.writer.proofs.Encoding.{encodes_none, front, encodes_other, misfit_fails, bare_fails, bare_encodes, no_end, no_comment, says_fails, alone_fails, whole_fails, whole_passes}
 use Rattle.writer.proofs.encode.Goals as goal
 

@@ -5,7 +5,6 @@ use Rattle.paper.specs.InstructionToken.{comment_opcode, end_token}
 use Rattle.record_tokens.specs.Tokens.{comment_token}
 use Rattle.writer.specs.Laid.{bare_fits}
 use Rattle.writer.proofs.Paste.{small, put_one, put_failed, put_passed}
-use borrow.Author.Rules.{rules}
 use Rattle.writer.proofs.encode_bare.Goals as goal
 
 pub returns-then-lent-size : goal.returns-then-lent-size

@@ -10,7 +10,6 @@ use Rattle.told.specs.Numbered.{judged_number, is_refusal, size_in}
 use Rattle.told.proofs.Numbers.{yes_even, yes_size, refusal_odd}
 use Rattle.stretches.proofs.Stretches.{told_whole}
 use Rattle.writer.specs.Laid.{is_whole}
-use borrow.Author.Rules.{rules}
 use Rattle.writer.proofs.is_whole.Goals as goal
 
 refused : (j : Judged) (told n : ℕ) → told ≡ judged_number j → is_refusal told ≡ true → false ≡ is_whole j n

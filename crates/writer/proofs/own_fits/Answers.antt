@@ -1,5 +1,4 @@
 use mathlib.Core.Path.{sym, ◌∙◌}
-use borrow.Author.Rules.{rules}
 use Rattle.writer.proofs.own_fits.Goals as goal
 
 pub returns-then-is_destination : goal.returns-then-is_destination

@@ -5,7 +5,6 @@ use native.Mathlib.Omega.{arith}
 use lib.ListN.{length}
 use lib.Seq.{length-sets}
 use Rattle.lists.proofs.Stores.{sets_append, lent_stored}
-use borrow.Author.Rules.{rules}
 use Rattle.writer.proofs.put.Goals as goal
 
 pub returns : goal.returns

@@ -1,20 +1,12 @@
-use Prim.Native.Nat.{◌+◌, ◌*◌, ◌-◌, ◌/◌, ◌%◌, ◌≤◌}
-use native.Mathlib.Omega.{arith}
-use mathlib.Core.Path.{◌≡◌, refl, sym, ◌∙◌}
-use mathlib.Core.Bool.{true, ◌&&◌}
-use lib.Dec.{eqb}
-use lib.ListN.{length, drop, get_or, length-map}
-use borrow.Author.Tests.{not-true, not-false}
-use borrow.Rule.Slice.PartMut.{same_len_mid}
-use Rattle.paper.specs.Notation.{pick}
-use Rattle.places.specs.Places.{place_by, decoded}
+use Prim.Native.Nat.{◌+◌, ◌*◌, ◌-◌, ◌≤◌}
+use mathlib.Core.Path.{◌≡◌}
+use lib.ListN.{length, drop, get_or}
+use Rattle.places.specs.Places.{decoded}
 use Rattle.records.specs.Record.{operand_count, predicate_slot, no_operand}
 use Rattle.records.specs.ByClass.{ordered}
 use Rattle.record_tokens.specs.Tokens.{row_tokens}
-use Rattle.writer.specs.Laid.{fits, row_fits, unused_from, predicate_unused, array_fits}
-use Rattle.writer.proofs.Paste.{put_length, lent_length, put_on, put_failed, put_passed, Rest, rest_on, rest_none}
-use Rattle.writer.proofs.Row.{places_step, row_step, row_none, operand_few, slot_few, held_few, fits_step, ordered_step, fits_none, ordered_none, unused_step, unused_done}
-use borrow.Author.Rules.{rules}
+use Rattle.writer.specs.Laid.{row_fits, unused_from}
+use Rattle.writer.proofs.Paste.{Rest}
 use Rattle.writer.proofs.put_row.Given as goal
 
 abbrev pub invariant-loop-left : goal.invariant-loop-left

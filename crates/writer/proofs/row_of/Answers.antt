@@ -1,5 +1,4 @@
 use Rattle.writer.specs.Row.{row_number}
-use borrow.Author.Rules.{rules}
 use Rattle.writer.proofs.row_of.Goals as goal
 
 pub returns-then-marked : goal.returns-then-marked

@@ -2,7 +2,6 @@ use mathlib.Core.Path.{sym, ◌∙◌}
 use Rattle.paper.proofs.OneToOne.{same_named}
 use Rattle.writer.specs.Writing.{unnamed}
 use Rattle.writer.proofs.Exactly.{known_writes}
-use borrow.Author.Rules.{rules}
 use Rattle.writer.proofs.write.Goals as goal
 
 pub returns-in-Known : goal.returns-in-Known

@@ -2,7 +2,6 @@ use mathlib.Core.Path.{refl, sym}
 use lib.Seq.{length-take-le}
 use Rattle.writer.specs.Decided.{writing_in, content_in}
 use Rattle.writer.proofs.Answers.{refused_record}
-use borrow.Author.Rules.{rules}
 use Rattle.writer.proofs.write_known.Goals as goal
 
 pub returns-then-count-eq0 : goal.returns-then-count-eq0

@@ -1,6 +1,5 @@
 use mathlib.Core.Path.{sym, ◌∙◌}
 use native.Mathlib.Omega.{arith}
-use borrow.Author.Rules.{rules}
 use Rattle.paper.proofs.Bools.{never}
 use Rattle.door.proofs.Quickly.{free_read_lem, free_written_lem}
 use Rattle.door.proofs.quick.fit_one.Goals as goal

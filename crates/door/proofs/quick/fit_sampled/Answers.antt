@@ -1,5 +1,4 @@
 use mathlib.Core.Path.{refl}
-use borrow.Author.Rules.{rules}
 use Rattle.paper.proofs.Bools.{never}
 use Rattle.door.proofs.quick.fit_sampled.Goals as goal
 

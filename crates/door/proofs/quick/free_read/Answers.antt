@@ -1,5 +1,4 @@
 use mathlib.Core.Path.{sym, ap, ◌∙◌}
-use borrow.Author.Rules.{rules}
 use Rattle.versions.specs.Sets.{holds}
 use Rattle.door.specs.Quick.{spot_of, free_read}
 use Rattle.door.proofs.quick.free_read.Goals as goal

@@ -1,5 +1,4 @@
 use Rattle.versions.specs.Sets.{holds}
-use borrow.Author.Rules.{rules}
 use Rattle.door.proofs.quick.held.Goals as goal
 
 pub returns : goal.returns

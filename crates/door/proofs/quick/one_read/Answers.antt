@@ -1,6 +1,5 @@
 use mathlib.Core.Path.{sym, ◌∙◌}
 use native.Mathlib.Omega.{arith}
-use borrow.Author.Rules.{rules}
 use Rattle.paper.proofs.Bools.{never}
 use Rattle.door.proofs.Quickly.{one_read}
 use Rattle.door.proofs.quick.one_read.Goals as goal

@@ -1,4 +1,3 @@
-use borrow.Author.Rules.{rules}
 use borrow.Author.Tests.{eq-eqb, ne_eqb}
 use Rattle.versions.specs.Sets.{holds}
 use Rattle.door.specs.Quick.{read_laid}

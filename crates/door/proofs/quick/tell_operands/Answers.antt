@@ -2,7 +2,6 @@ use Prim.Native.Nat.{◌%◌, ◌^◌}
 use mathlib.Core.Path.{sym, ap, ◌∙◌}
 use native.Mathlib.Nat.{mod-eq_of_lt}
 use native.Mathlib.Omega.{arith}
-use borrow.Author.Rules.{rules}
 use Rattle.told.specs.Numbered.{yes_number}
 use Rattle.door.proofs.Quickly.{told_where, last_kind, tells_none, tells_ds, tells_dss, tells_dsss, tells_sampled, tells_source, tells_constant}
 use Rattle.door.proofs.quick.tell_operands.Goals as goal

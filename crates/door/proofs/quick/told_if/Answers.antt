@@ -1,4 +1,3 @@
-use borrow.Author.Rules.{rules}
 use Rattle.door.proofs.quick.told_if.Goals as goal
 
 pub returns-then-good : goal.returns-then-good

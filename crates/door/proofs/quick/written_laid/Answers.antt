@@ -1,4 +1,3 @@
-use borrow.Author.Rules.{rules}
 use Rattle.door.specs.Quick.{written_laid}
 use Rattle.door.proofs.quick.written_laid.Goals as goal
 
