@@ -19,6 +19,11 @@ loop-version-init c =
     let first = stands_first g.version (tokens_in g.bytes.now) (omega (arith, tokens_length g.bytes.now g.tokens c.requires.1)) in
     (search rules, (rw c.start-start.ensures first, omega arith))
 
+pub view_from-view-requires : goal.view_from-view-requires
+view_from-view-requires c =
+    let g = c.args in
+    (comes_on g.version (tokens_in g.bytes.now) c.loop-version.step 0 c.loop-version.invariant.1 g.tokens (sym c.goes_on.ensures ∙ c.loop-version-test.true)).2
+
 pub fill-requires : goal.fill-requires
 fill-requires c =
     let e = c.view_from-view.ensures in
@@ -57,11 +62,6 @@ returns c =
     let over = sym c.goes_on.ensures ∙ c.loop-version-test.false in
     let verdict = comes_verdict g.version (tokens_in g.bytes.now) step 0 c.loop-version.invariant.1 (rw long over) in
     same_verdict c.verdict_of.result (verdict_of step g.tokens) c.verdict_of.ensures ∙ rw long at verdict
-
-pub view_from-view-requires : goal.view_from-view-requires
-view_from-view-requires c =
-    let g = c.args in
-    (comes_on g.version (tokens_in g.bytes.now) c.loop-version.step 0 c.loop-version.invariant.1 g.tokens (sym c.goes_on.ensures ∙ c.loop-version-test.true)).2
 
 pub slice_bounds-window-end : goal.slice_bounds-window-end
 slice_bounds-window-end c = omega (arith, c.fill.auto.window, c.view_from-view.ensures.2, c.loop-version.invariant.0)
