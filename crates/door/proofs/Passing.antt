@@ -153,6 +153,16 @@ module _ (v : Version) (first : ℕ) (behind : List ℕ) where
         rw (judged_here (length behind), enough, ne_eqb (count_of v first) 0 (λ z. some (e ∙ z)), f, is.1)
         (yes_by (operands v row_of_lem 1 (take claim behind)))
 
+    -- the answer, by what is told of the tokens for the two sets of the row
+    pub passes_told : leb claim (length behind) ≡ true → (written read : ℕ) →
+        written ≡ (row_of v (opcode_of first)).written → read ≡ (row_of v (opcode_of first)).read → (fit : Bool) →
+        ((d s : Types) → Meant v (destination d) written → Meant v (source s) read →
+        fit ≡ is_fit (operands v (destination d ∷ sources (count - 1) s) 1 (take claim behind))) →
+        passed v first behind ≡ pick fit (yes_number claim 1) 0
+    passes_told enough written read w r fit f =
+        let kind = uniform_of v (opcode_of first) in
+        passes_by enough fit (f kind.written kind.read (meant_written written w) (meant_read read r))
+
     -- a claim is small
     pub claim_few : claim < 16
     claim_few = by (has_sizes v) refl

@@ -2,12 +2,10 @@ use mathlib.Core.Path.{refl, sym, ◌∙◌}
 use native.Mathlib.Omega.{arith}
 use lib.Seq.{length-take-le}
 use borrow.Author.Tests.{lt-leb, le-leb}
-use Rattle.paper.specs.InstructionToken.{opcode_of}
 use Rattle.paper.specs.declared.Class.TheVariants.{One}
 use Rattle.paper.specs.declared.Single.TheVariants.{Plain}
 use Rattle.told.proofs.Numbers.{yes_fits}
-use Rattle.uniform.specs.Uniform.{uniform_of}
-use Rattle.door.proofs.Passing.{passes_none, passes_short, passes_by, meant_written, meant_read, claim_few}
+use Rattle.door.proofs.Passing.{passes_none, passes_short, passes_told, claim_few}
 use Rattle.door.proofs.pass.Goals as goal
 
 pub returns-then-row-eq0 : goal.returns-then-row-eq0
@@ -33,12 +31,9 @@ returns-then-fits c =
     let g = c.args in
     let some = c.if-row-eq0.false in
     let wants = c.asked_by-row.ensures in
-    let kind = uniform_of g.version (opcode_of g.first) in
     let passes =
-    passes_by g.version g.first g.behind.now _ _ wants.many some (wants.claims some) (le-leb _ _ c.if-behind-size.false) c.fits.result
-    (c.fits.ensures kind.written kind.read
-    (meant_written g.version g.first g.behind.now _ _ wants.many some (wants.claims some) _ (wants.writes some))
-    (meant_read g.version g.first g.behind.now _ _ wants.many some (wants.claims some) _ (wants.reads some))) in
+    passes_told g.version g.first g.behind.now _ _ wants.many some (wants.claims some) (le-leb _ _ c.if-behind-size.false) _ _
+    (wants.writes some) (wants.reads some) c.fits.result c.fits.ensures in
     c.yes.ensures
     ∙ yes_fits c.asked_by-row.result.claim (One Plain) (omega (arith, claim_few g.version g.first g.behind.now _ _ wants.many some (wants.claims some)))
     ∙ sym (passes ∙ rw c.if-fits.true refl)
@@ -48,10 +43,7 @@ returns c =
     let g = c.args in
     let some = c.if-row-eq0.false in
     let wants = c.asked_by-row.ensures in
-    let kind = uniform_of g.version (opcode_of g.first) in
     let passes =
-    passes_by g.version g.first g.behind.now _ _ wants.many some (wants.claims some) (le-leb _ _ c.if-behind-size.false) c.fits.result
-    (c.fits.ensures kind.written kind.read
-    (meant_written g.version g.first g.behind.now _ _ wants.many some (wants.claims some) _ (wants.writes some))
-    (meant_read g.version g.first g.behind.now _ _ wants.many some (wants.claims some) _ (wants.reads some))) in
+    passes_told g.version g.first g.behind.now _ _ wants.many some (wants.claims some) (le-leb _ _ c.if-behind-size.false) _ _
+    (wants.writes some) (wants.reads some) c.fits.result c.fits.ensures in
     sym (passes ∙ rw c.if-fits.false refl)

@@ -1,9 +1,16 @@
 use mathlib.Core.Path.{◌≡◌, sym, ap, ◌∙◌}
+use Prim.Native.Nat.{ℕ}
+use Rattle.paper.specs.declared.Version.{Version}
 use Rattle.paper.specs.InstructionToken.{opcode_of}
 use Rattle.records.proofs.RowRead.{bare_row, row_readable, row_is}
 use borrow.Author.Tests.{eq-eqb, ne_eqb}
 use Rattle.shapes.specs.Shape.{shape_of, places_field}
 use Rattle.records.proofs.read_record.Goals as goal
+
+-- the row is that of the token's opcode
+row_told : (v : Version) (first opcode shape row : ℕ) → opcode ≡ opcode_of first → shape ≡ shape_of v opcode → row ≡ places_field shape →
+    row ≡ places_field (shape_of v (opcode_of first))
+row_told v first opcode shape row o s r = r ∙ ap places_field (s ∙ ap (shape_of v) o)
 
 pub returns-then-class-eq-COMMENT : goal.returns-then-class-eq-COMMENT
 returns-then-class-eq-COMMENT c = rw (eq-eqb _ _ c.if-class-eq-COMMENT.true, ← c.comment_length.ensures) c.empty_record.ensures
@@ -14,23 +21,20 @@ returns-then-class-eq-END c = rw (ne_eqb _ _ c.if-class-eq-COMMENT.false, eq-eqb
 pub bare_record-requires : goal.bare_record-requires
 bare_record-requires c =
     let g = c.args in
-    let row : c.places_in-row.result ≡ places_field (shape_of g.version (opcode_of g.first)) =
-    c.places_in-row.ensures ∙ ap places_field (c.shape_of-shape.ensures ∙ ap (shape_of g.version) c.opcode_of.ensures) in
+    let row = row_told g.version g.first _ _ _ c.opcode_of.ensures c.shape_of-shape.ensures c.places_in-row.ensures in
     rw (ne_eqb _ _ c.if-class-eq-COMMENT.false, ne_eqb _ _ c.if-class-eq-END.false, bare_row g.version g.first (sym row ∙ c.if-row-eq0.true)) at c.requires
 
 pub returns-then-row-eq0 : goal.returns-then-row-eq0
 returns-then-row-eq0 c =
     let g = c.args in
-    let row : c.places_in-row.result ≡ places_field (shape_of g.version (opcode_of g.first)) =
-    c.places_in-row.ensures ∙ ap places_field (c.shape_of-shape.ensures ∙ ap (shape_of g.version) c.opcode_of.ensures) in
+    let row = row_told g.version g.first _ _ _ c.opcode_of.ensures c.shape_of-shape.ensures c.places_in-row.ensures in
     rw (ne_eqb _ _ c.if-class-eq-COMMENT.false, ne_eqb _ _ c.if-class-eq-END.false, bare_row g.version g.first (sym row ∙ c.if-row-eq0.true))
     c.bare_record.ensures
 
 pub instruction_record-requires : goal.instruction_record-requires
 instruction_record-requires c =
     let g = c.args in
-    let row : c.places_in-row.result ≡ places_field (shape_of g.version (opcode_of g.first)) =
-    c.places_in-row.ensures ∙ ap places_field (c.shape_of-shape.ensures ∙ ap (shape_of g.version) c.opcode_of.ensures) in
+    let row = row_told g.version g.first _ _ _ c.opcode_of.ensures c.shape_of-shape.ensures c.places_in-row.ensures in
     rw row
     (row_readable g.version g.first (λ e. c.if-row-eq0.false (row ∙ e))
     (rw (ne_eqb _ _ c.if-class-eq-COMMENT.false, ne_eqb _ _ c.if-class-eq-END.false) at c.requires))
@@ -38,8 +42,7 @@ instruction_record-requires c =
 pub returns : goal.returns
 returns c =
     let g = c.args in
-    let row : c.places_in-row.result ≡ places_field (shape_of g.version (opcode_of g.first)) =
-    c.places_in-row.ensures ∙ ap places_field (c.shape_of-shape.ensures ∙ ap (shape_of g.version) c.opcode_of.ensures) in
+    let row = row_told g.version g.first _ _ _ c.opcode_of.ensures c.shape_of-shape.ensures c.places_in-row.ensures in
     rw (
       ne_eqb _ _ c.if-class-eq-COMMENT.false,
       ne_eqb _ _ c.if-class-eq-END.false,

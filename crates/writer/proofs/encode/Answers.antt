@@ -25,9 +25,9 @@ use Rattle.writer.proofs.Encoding.{encodes_none, front, encodes_other, misfit_fa
 use Rattle.writer.proofs.encode.Goals as goal
 
 -- a size that is stated is no more than that of the tokens
-stated-few : (sized : Bool) (n : ℕ) → pick sized n 0 ≤ n
-stated-few true n = omega arith
-stated-few false n = omega arith
+stated_few : (sized : Bool) (n : ℕ) → pick sized n 0 ≤ n
+stated_few true n = omega arith
+stated_few false n = omega arith
 
 -- the room behind the first token, lent and given back
 kept : (room last : List ℕ) → length last ≡ length (mid_of 1 (length room - 1) room) → length (put_mid 1 (length room - 1) room last) ≡ length room
@@ -41,11 +41,11 @@ module _ (v : Version) (r : Record) where
       (put : Put (tokens_behind r (row_of v r)) (mid_of 1 (length room - 1) room) 0 size last)
       (is : first ≡ word (instruction_token v r (length (tokens_behind r (row_of v r))))) where
     -- all of its tokens
-    whole-put : Put (encoded_tokens v r) room 0 (1 + size) (set (put_mid 1 (length room - 1) room last) 0 first)
-    whole-put = put_first room _ _ _ _ _ _ (omega arith) (other_encoded v r (no_end v r n some)) is put
+    whole_put : Put (encoded_tokens v r) room 0 (1 + size) (set (put_mid 1 (length room - 1) room last) 0 first)
+    whole_put = put_first room _ _ _ _ _ _ (omega arith) (other_encoded v r (no_end v r n some)) is put
 
-    whole-fits : 1 + size ≤ length room
-    whole-fits = omega (arith, put.next_is, short)
+    whole_fits : 1 + size ≤ length room
+    whole_fits = omega (arith, put.next_is, short)
 
 pub put_row-size-requires : goal.put_row-size-requires
 put_row-size-requires c =
@@ -62,9 +62,7 @@ returns-then-size-eq-MISFIT c =
 
 pub shape_of-room-then-size-eq-MISFIT : goal.shape_of-room-then-size-eq-MISFIT
 shape_of-room-then-size-eq-MISFIT c =
-    let g = c.args in
-    let keeps = kept g.room.now c.put_row-size.new.room c.put_row-size.ensures.long in
-    keeps
+    kept c.args.room.now c.put_row-size.new.room c.put_row-size.ensures.long
 
 -- a comment or END
 pub encode_bare-requires : goal.encode_bare-requires
@@ -97,9 +95,7 @@ returns-then-shape-eq0 c =
 
 pub shape_of-room-then-shape-eq0 : goal.shape_of-room-then-shape-eq0
 shape_of-room-then-shape-eq0 c =
-    let g = c.args in
-    let keeps = kept g.room.now c.put_row-size.new.room c.put_row-size.ensures.long in
-    keeps
+    kept c.args.room.now c.put_row-size.new.room c.put_row-size.ensures.long
 
 -- an instruction of the table
 pub first_token-first-requires : goal.first_token-first-requires
@@ -109,7 +105,7 @@ first_token-first-requires c =
     let fit = rw row at c.put_row-size.ensures in
     let put = fit.put c.if-size-eq-MISFIT.false in
     let size : c.put_row-size.result ≡ length (tokens_behind g.instruction (row_of g.known g.instruction)) = omega (arith, put.next_is) in
-    rw c.choose-stated.ensures (omega (arith, stated-few c.has_sizes.result c.put_row-size.result, size, short g.known g.instruction))
+    rw c.choose-stated.ensures (omega (arith, stated_few c.has_sizes.result c.put_row-size.result, size, short g.known g.instruction))
 
 pub returns-then-not-is_first : goal.returns-then-not-is_first
 returns-then-not-is_first c =
@@ -124,9 +120,7 @@ returns-then-not-is_first c =
 
 pub shape_of-room-then-not-is_first : goal.shape_of-room-then-not-is_first
 shape_of-room-then-not-is_first c =
-    let g = c.args in
-    let keeps = kept g.room.now c.put_row-size.new.room c.put_row-size.ensures.long in
-    keeps
+    kept c.args.room.now c.put_row-size.new.room c.put_row-size.ensures.long
 
 pub returns-then-not-extent-lent : goal.returns-then-not-extent-lent
 returns-then-not-extent-lent c =
@@ -136,9 +130,7 @@ returns-then-not-extent-lent c =
 
 pub shape_of-room-then-not-extent-lent : goal.shape_of-room-then-not-extent-lent
 shape_of-room-then-not-extent-lent c =
-    let g = c.args in
-    let keeps = kept g.room.now c.put_row-size.new.room c.put_row-size.ensures.long in
-    keeps
+    kept c.args.room.now c.put_row-size.new.room c.put_row-size.ensures.long
 
 pub bounds-room-0 : goal.bounds-room-0
 bounds-room-0 c =
@@ -155,7 +147,7 @@ overflow_add-count c =
     let put = fit.put c.if-size-eq-MISFIT.false in
     let size : c.put_row-size.result ≡ length (tokens_behind g.instruction (row_of g.known g.instruction)) = omega (arith, put.next_is) in
     let first = rw (c.choose-stated.ensures, c.has_sizes.ensures, size) at c.first_token-first.ensures in
-    let inside = whole-fits g.known g.instruction g.lent g.room.now (omega arith) some _ _ _ put first in
+    let inside = whole_fits g.known g.instruction g.lent g.room.now (omega arith) some _ _ _ put first in
     omega (arith, inside)
 
 pub slice_bounds-is_whole-end : goal.slice_bounds-is_whole-end
@@ -167,8 +159,8 @@ slice_bounds-is_whole-end c =
     let put = fit.put c.if-size-eq-MISFIT.false in
     let size : c.put_row-size.result ≡ length (tokens_behind g.instruction (row_of g.known g.instruction)) = omega (arith, put.next_is) in
     let first = rw (c.choose-stated.ensures, c.has_sizes.ensures, size) at c.first_token-first.ensures in
-    let whole = whole-put g.known g.instruction g.lent g.room.now (omega arith) some _ _ _ put first in
-    let inside = whole-fits g.known g.instruction g.lent g.room.now (omega arith) some _ _ _ put first in
+    let whole = whole_put g.known g.instruction g.lent g.room.now (omega arith) some _ _ _ put first in
+    let inside = whole_fits g.known g.instruction g.lent g.room.now (omega arith) some _ _ _ put first in
     omega (arith, put_length whole, inside)
 
 pub slice_bounds-is_whole-end-2 : goal.slice_bounds-is_whole-end-2
@@ -180,8 +172,8 @@ slice_bounds-is_whole-end-2 c =
     let put = fit.put c.if-size-eq-MISFIT.false in
     let size : c.put_row-size.result ≡ length (tokens_behind g.instruction (row_of g.known g.instruction)) = omega (arith, put.next_is) in
     let first = rw (c.choose-stated.ensures, c.has_sizes.ensures, size) at c.first_token-first.ensures in
-    let whole = whole-put g.known g.instruction g.lent g.room.now (omega arith) some _ _ _ put first in
-    let inside = whole-fits g.known g.instruction g.lent g.room.now (omega arith) some _ _ _ put first in
+    let whole = whole_put g.known g.instruction g.lent g.room.now (omega arith) some _ _ _ put first in
+    let inside = whole_fits g.known g.instruction g.lent g.room.now (omega arith) some _ _ _ put first in
     sym (length-take-le _ _ (omega (arith, put_length whole, inside)))
 
 pub returns-then-is_whole : goal.returns-then-is_whole
@@ -193,8 +185,8 @@ returns-then-is_whole c =
     let put = fit.put c.if-size-eq-MISFIT.false in
     let size : c.put_row-size.result ≡ length (tokens_behind g.instruction (row_of g.known g.instruction)) = omega (arith, put.next_is) in
     let first = rw (c.choose-stated.ensures, c.has_sizes.ensures, size) at c.first_token-first.ensures in
-    let whole = whole-put g.known g.instruction g.lent g.room.now (omega arith) some _ _ _ put first in
-    let inside = whole-fits g.known g.instruction g.lent g.room.now (omega arith) some _ _ _ put first in
+    let whole = whole_put g.known g.instruction g.lent g.room.now (omega arith) some _ _ _ put first in
+    let inside = whole_fits g.known g.instruction g.lent g.room.now (omega arith) some _ _ _ put first in
     let judge = rw (front g.known g.instruction g.lent g.room.now _ (1 + c.put_row-size.result) whole inside) at c.is_whole.ensures in
     let alone = c.if-not-extent-lent.false in
     let reads =
@@ -214,7 +206,7 @@ shape_of-room-then-is_whole c =
     let put = fit.put c.if-size-eq-MISFIT.false in
     let size : c.put_row-size.result ≡ length (tokens_behind g.instruction (row_of g.known g.instruction)) = omega (arith, put.next_is) in
     let first = rw (c.choose-stated.ensures, c.has_sizes.ensures, size) at c.first_token-first.ensures in
-    let whole = whole-put g.known g.instruction g.lent g.room.now (omega arith) some _ _ _ put first in
+    let whole = whole_put g.known g.instruction g.lent g.room.now (omega arith) some _ _ _ put first in
     put_length whole
 
 pub returns : goal.returns
@@ -226,8 +218,8 @@ returns c =
     let put = fit.put c.if-size-eq-MISFIT.false in
     let size : c.put_row-size.result ≡ length (tokens_behind g.instruction (row_of g.known g.instruction)) = omega (arith, put.next_is) in
     let first = rw (c.choose-stated.ensures, c.has_sizes.ensures, size) at c.first_token-first.ensures in
-    let whole = whole-put g.known g.instruction g.lent g.room.now (omega arith) some _ _ _ put first in
-    let inside = whole-fits g.known g.instruction g.lent g.room.now (omega arith) some _ _ _ put first in
+    let whole = whole_put g.known g.instruction g.lent g.room.now (omega arith) some _ _ _ put first in
+    let inside = whole_fits g.known g.instruction g.lent g.room.now (omega arith) some _ _ _ put first in
     let judge = rw (front g.known g.instruction g.lent g.room.now _ (1 + c.put_row-size.result) whole inside) at c.is_whole.ensures in
     encodes_none g.known g.instruction g.lent _ (whole_fails g.known g.instruction g.lent some (sym judge ∙ c.if-is_whole.false))
 
@@ -240,5 +232,5 @@ shape_of-room c =
     let put = fit.put c.if-size-eq-MISFIT.false in
     let size : c.put_row-size.result ≡ length (tokens_behind g.instruction (row_of g.known g.instruction)) = omega (arith, put.next_is) in
     let first = rw (c.choose-stated.ensures, c.has_sizes.ensures, size) at c.first_token-first.ensures in
-    let whole = whole-put g.known g.instruction g.lent g.room.now (omega arith) some _ _ _ put first in
+    let whole = whole_put g.known g.instruction g.lent g.room.now (omega arith) some _ _ _ put first in
     put_length whole
