@@ -134,54 +134,18 @@ def main():
         if old in library:
             print("library:", old, sorted(str(p.relative_to(ROOT)) for p in library[old])[:3], "declared", sorted(names.get(old, ()))[:3], sorted(bound.get(old, ()))[:3])
 
-    def turn_text(text, path):
-        rel = str(path.relative_to(ROOT))
-        skip = {local for _, local in library_names(text)} | {base for base, _ in library_names(text)}
-        def one(match):
-            name = match[0]
-            by = BY_HAND_IN.get((rel, name))
-            if by:
-                return by
-            if name in skip and not (rel, name) in BY_HAND_IN:
-                return name
-            return table.get(name, name)
-        return TOKEN.sub(one, text)
-
     changed = 0
-    for path in antt_files():
-        text = path.read_text()
-        parts = path.relative_to(CRATES).parts
-        local = set()
-        if len(parts) > 3:
-            # a function's own proof: its goals keep the names that Rattle makes
-            own = COMMENT.sub("", text)
-            for found in SIGNATURE.finditer(own):
-                for name in found[1].split():
-                    local.add(name)
-        out = []
-        for line in text.split("\n"):
-            code, dash, comment = line.partition("--") if line.lstrip().startswith("--") or " -- " in line else (line, "", "")
-            out.append(turn_text_line(code, path, table, text, local) + dash + turn_comment(comment, table))
-        new = "\n".join(out)
-        if new != text:
+    rust = sorted(path for path in CRATES.rglob("*.rt") if "out" not in path.parts)
+    edits = sorted(CRATES.glob("*/must-fail/*.edit"))
+    for turn, paths in ((turn_antt, antt_files()), (turn_rust, rust), (turn_edit, edits)):
+        for path in paths:
+            text = path.read_text()
+            new = turn(text, path, table)
+            if new == text:
+                continue
             changed += 1
-            clash(path, text, new, table)
-            if not check:
-                path.write_text(new)
-    for path in sorted(CRATES.rglob("*.rt")):
-        if "out" in path.parts:
-            continue
-        text = path.read_text()
-        new = turn_rust(text, path, table)
-        if new != text:
-            changed += 1
-            if not check:
-                path.write_text(new)
-    for path in sorted(CRATES.glob("*/must-fail/*.edit")):
-        text = path.read_text()
-        new = turn_edit(text, path, table)
-        if new != text:
-            changed += 1
+            if turn is turn_antt:
+                clash(path, text, new, table)
             if not check:
                 path.write_text(new)
     print(f"{len(table)} names turned, {changed} files")
@@ -189,6 +153,20 @@ def main():
 
 def skips(text):
     return {n for pair in library_names(text) for n in pair}
+
+
+def turn_antt(text, path, table):
+    local = set()
+    if not is_shared(path):
+        # a function's own proof: its goals keep the names that Rattle makes
+        for found in SIGNATURE.finditer(COMMENT.sub("", text)):
+            local.update(found[1].split())
+    out = []
+    for line in text.split("\n"):
+        has_comment = line.lstrip().startswith("--") or " -- " in line
+        code, dash, comment = line.partition("--") if has_comment else (line, "", "")
+        out.append(turn_text_line(code, path, table, text, local) + dash + turn_comment(comment, table))
+    return "\n".join(out)
 
 
 def turn_text_line(code, path, table, text, local):
