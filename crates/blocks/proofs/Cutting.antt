@@ -10,14 +10,13 @@ use Rattle.paper.specs.Instruction.{judged}
 use Rattle.paper.specs.Blocks.{Cut, out, then}
 use Rattle.paper.specs.Stream.{cut_one, cutting, cut_from}
 use Rattle.paper.specs.declared.Version.{Version}
-use Rattle.paper.specs.declared.Judged.{Judged}
-use Rattle.paper.specs.declared.Judged.TheVariants.{Good, Refused}
+use Rattle.paper.specs.Judgements.{Judged, good_instruction, bad_instruction}
 use Rattle.blocks.specs.Reach.{moved_cut, start_of}
 
 -- only what follows an instruction's first token is ever asked for
 cut_one_lem : (judgement : Judged) (p : ℕ) (f g : ℕ → Cut) → ((n : ℕ) → f (suc n) ≡ g (suc n)) → cut_one judgement p f ≡ cut_one judgement p g
-cut_one_lem (Good size class) p f g e = ap (then class p) (e size)
-cut_one_lem (Refused r) p f g e = refl
+cut_one_lem (good_instruction size class) p f g e = ap (then class p) (e size)
+cut_one_lem (bad_instruction r) p f g e = refl
 
 -- the bound does not matter where it is enough
 pub enough : (f g : ℕ) (v : Version) (tokens : List ℕ) (p : ℕ) → length tokens ≤ f → length tokens ≤ g → cutting f v tokens p ≡ cutting g v tokens p
@@ -63,8 +62,8 @@ module _ (v : Version) (s : List ℕ) (p : ℕ) where
 -- a cut begins at its position
 start_one : (judgement : Judged) (p : ℕ) (rest : ℕ → Cut) → start_of (cut_one judgement p rest) ≡ p
 unfolding start_of
-start_one (Good size class) p rest = refl
-start_one (Refused r) p rest = refl
+start_one (good_instruction size class) p rest = refl
+start_one (bad_instruction r) p rest = refl
 
 pub start_of_lem : (most : ℕ) (v : Version) (tokens : List ℕ) (p : ℕ) → start_of (cutting most v tokens p) ≡ p
 unfolding start_of cutting
@@ -82,10 +81,10 @@ module _ (p q : ℕ) where
   moved_one : (k : ℕ) (judgement : Judged) (f g : ℕ → Cut) → ((n : ℕ) → f n ≡ moved_cut (λ x. q + (x - p)) (g n)) →
       cut_one judgement (q + k) f ≡ moved_cut (λ x. q + (x - p)) (cut_one judgement (p + k) g)
   unfolding moved_cut
-  moved_one k (Good size class) f g e =
+  moved_one k (good_instruction size class) f g e =
       let at : q + (p + k - p) ≡ q + k = omega arith in
       rw at (ap (then class (q + k)) (e (suc size)))
-  moved_one k (Refused r) f g e =
+  moved_one k (bad_instruction r) f g e =
       let at : q + (p + k - p) ≡ q + k = omega arith in
       let told : q + (p + k + r.position - p) ≡ q + k + r.position = omega arith in
       rw (at, told)

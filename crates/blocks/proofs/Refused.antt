@@ -1,4 +1,5 @@
 -- A nesting is refused at the first instruction that no lawful stream has there.
+use Rattle.std.specs.Prelude.{Ok, Err}
 use Prim.Native.Nat.{ℕ}
 use mathlib.Core.Path.{◌≡◌, refl, sym, ◌∙◌}
 use mathlib.Core.Bool.{Bool, true, false}
@@ -18,8 +19,7 @@ use Rattle.paper.specs.declared.Closer.TheVariants.{Else, EndIf, EndLoop, EndRep
 use Rattle.paper.specs.declared.Refusal.{Refusal}
 use Rattle.paper.specs.declared.Reason.{Reason}
 use Rattle.paper.specs.declared.Reason.TheVariants.{Block as BLOCK, Depth as DEPTH, Tail as TAIL}
-use Rattle.paper.specs.declared.Verdict.{Verdict}
-use Rattle.paper.specs.declared.Verdict.TheVariants.{Accepted, Refused}
+use Rattle.paper.specs.Judgements.{Verdict}
 use Rattle.blocks.specs.Nesting.{nesting}
 use Rattle.blocks.specs.Begins.{Leads, nothing, first, Begins, ends_stream, ended, nesting_reason, reason_after}
 use Rattle.blocks.specs.Reach.{onwards, open_after}
@@ -93,7 +93,7 @@ row_says (c ∷ cs) w = row_first c cs (λ next. open_after next cs) (λ next. r
 -- where a walk past a row of classes comes to that has this verdict, with b behind them
 abbrev Comes : ℕ → Cut → Verdict → Next → Type 0
 Comes n b said (go w) = said ≡ nesting n b w
-Comes n b said (bad reason) = (r : Refusal) × (said ≡ Refused r)
+Comes n b said (bad reason) = (r : Refusal) × (said ≡ Err r)
 Comes n b said finish = said ≡ at_end n b
 
 behind_end : {cs : List Class} {a b : Cut} → Leads cs a b → (n : ℕ) (next : WalkState → Next) → Comes n b (at_end n a) (onwards finish cs next)
@@ -147,7 +147,7 @@ own_closer (opened Loop) ks w = refl
 own_closer (opened Rep) ks w = refl
 own_closer past_else ks w = refl
 
-closings_walk : (n : ℕ) (ks : List Kind) (w : WalkState) → nesting n (closings ks) (nested ks w) ≡ Accepted n
+closings_walk : (n : ℕ) (ks : List Kind) (w : WalkState) → nesting n (closings ks) (nested ks w) ≡ Ok n
 unfolding nesting closings
 closings_walk n [] w = refl
 closings_walk n (k ∷ ks) w = rw (own_closer k ks (nested (k ∷ ks) w)) (closings_walk n ks w)
@@ -173,15 +173,15 @@ begins_open cs w e =
 pub begins_whole : (cs : List Class) → open_after begin cs ≡ finish → Begins cs
 begins_whole cs e =
     let l = laid_leads cs (out 0) in
-    let w : nesting 0 (laid cs (out 0)) begin ≡ Accepted 0 = rw e at (comes l 0 begin) in
+    let w : nesting 0 (laid cs (out 0)) begin ≡ Ok 0 = rw e at (comes l 0 begin) in
     (laid cs (out 0), out 0, l, (accepted 0 0 (laid cs (out 0)) w).1)
 
 -- what the walk refuses begins none
 pub begins_none : (cs : List Class) (reason : Reason) → open_after begin cs ≡ bad reason → Begins cs → ⊥
 begins_none cs reason e b =
-    let w : (r : Refusal) × (nesting 0 b.0 begin ≡ Refused r) = rw e at (comes b.2 0 begin) in
-    let yes_to : nesting 0 b.0 begin ≡ Accepted 0 = accepts b.3.2 0 in
-    let not_both : Refused w.0 ≡ Accepted 0 = sym w.1 ∙ yes_to in
+    let w : (r : Refusal) × (nesting 0 b.0 begin ≡ Err r) = rw e at (comes b.2 0 begin) in
+    let yes_to : nesting 0 b.0 begin ≡ Ok 0 = accepts b.3.2 0 in
+    let not_both : Err w.0 ≡ Ok 0 = sym w.1 ∙ yes_to in
     apart (cc)
 
 -- a refusal of a step has the class's own reason: DEPTH for an opener, BLOCK for any other
@@ -190,7 +190,7 @@ step_reason c w reason e = rw e at (says c w)
 
 module _ (n : ℕ) {cs : List Class} {a : Cut} {c : Class} {p : ℕ} {b : Cut} (leads : Leads cs a (then c p b)) where
   -- a step that refuses refuses the stream there
-  step_refuses : (w : WalkState) (reason : Reason) → open_after begin cs ≡ go w → step w c ≡ bad reason → nesting n a begin ≡ Refused (refusal reason p)
+  step_refuses : (w : WalkState) (reason : Reason) → open_after begin cs ≡ go w → step w c ≡ bad reason → nesting n a begin ≡ Err (refusal reason p)
   unfolding nesting
   step_refuses w reason e s =
       let w : nesting n a begin ≡ nesting n (then c p b) w = reached (leads_reaches leads begin w e) n in
@@ -198,24 +198,24 @@ module _ (n : ℕ) {cs : List Class} {a : Cut} {c : Class} {p : ℕ} {b : Cut} (
 
   -- where the walk refuses a nesting, what stands before begins a lawful stream, and with the instruction refused it begins none
   pub refused_none_begins : (w : WalkState) (reason : Reason) → open_after begin cs ≡ go w → step w c ≡ bad reason →
-      (nesting n a begin ≡ Refused (refusal reason p)) × (reason ≡ nesting_reason c) × Begins cs × (Begins (cs ++ c ∷ []) → ⊥)
+      (nesting n a begin ≡ Err (refusal reason p)) × (reason ≡ nesting_reason c) × Begins cs × (Begins (cs ++ c ∷ []) → ⊥)
   unfolding open_after
   refused_none_begins w reason e s =
       (step_refuses w reason e s, step_reason c w reason s, begins_open cs w e, begins_none (cs ++ c ∷ []) reason (open_append cs (c ∷ []) begin w e ∙ rw s))
 
   -- an END with a block open is BLOCK
   pub end_in_block : (k : Kind) (ks : List Kind) (w : WalkState) → c ≡ Closes End → open_after begin cs ≡ go (nested (k ∷ ks) w) →
-      nesting n a begin ≡ Refused (refusal BLOCK p)
+      nesting n a begin ≡ Err (refusal BLOCK p)
   end_in_block k ks w isend e = step_refuses (nested (k ∷ ks) w) BLOCK e (rw isend (end_closes_none k ks (nested (k ∷ ks) w)))
 
   module _ (before : Begins cs) (through : Begins (cs ++ c ∷ []) → ⊥) where
-    refused_step : (w : WalkState) → open_after begin cs ≡ go w → (x : Next) → step w c ≡ x → nesting n a begin ≡ Refused (refusal (nesting_reason c) p)
+    refused_step : (w : WalkState) → open_after begin cs ≡ go w → (x : Next) → step w c ≡ x → nesting n a begin ≡ Err (refusal (nesting_reason c) p)
     unfolding open_after
     refused_step w e (go u) s = absurd (through (begins_open (cs ++ c ∷ []) u (open_append cs (c ∷ []) begin w e ∙ rw s)))
     refused_step w e finish s = absurd (through (begins_whole (cs ++ c ∷ []) (open_append cs (c ∷ []) begin w e ∙ rw s)))
     refused_step w e (bad reason) s = rw (sym (step_reason c w reason s)) (step_refuses w reason e s)
 
-    refused_row : (x : Next) → open_after begin cs ≡ x → nesting n a begin ≡ Refused (refusal (reason_after cs c) p)
+    refused_row : (x : Next) → open_after begin cs ≡ x → nesting n a begin ≡ Err (refusal (reason_after cs c) p)
     refused_row (go w) e =
         let e' : ended cs ≡ false = rw e at (row_says cs begin) in
         rw e' (refused_step w e (step w c) refl)
@@ -226,5 +226,5 @@ module _ (n : ℕ) {cs : List Class} {a : Cut} {c : Class} {p : ℕ} {b : Cut} (
 
     -- where what stands before begins a lawful stream, and with this instruction it begins none, the walk refuses there:
     -- TAIL behind END, DEPTH at an opener, BLOCK at any other
-    pub none_begins_refused : nesting n a begin ≡ Refused (refusal (reason_after cs c) p)
+    pub none_begins_refused : nesting n a begin ≡ Err (refusal (reason_after cs c) p)
     none_begins_refused = refused_row (open_after begin cs) refl

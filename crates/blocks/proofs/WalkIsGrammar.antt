@@ -1,4 +1,5 @@
 -- The walk with open blocks accepts what the grammar derives, and refuses what the descent refuses.
+use Rattle.std.specs.Prelude.{Ok, Err}
 use Prim.Native.Nat.{ℕ, zero, suc, ◌+◌, ◌<◌, ◌≤◌}
 use mathlib.Core.Path.{◌≡◌, refl, ap, sym, ◌∙◌}
 use mathlib.Core.Bool.{Bool, true, false, ◌||◌}
@@ -22,8 +23,7 @@ use Rattle.paper.specs.declared.Opener.TheVariants.{If, Loop, Rep}
 use Rattle.paper.specs.declared.Closer.{Closer}
 use Rattle.paper.specs.declared.Closer.TheVariants.{End}
 use Rattle.paper.specs.declared.Reason.TheVariants.{Block as BLOCK, Depth as DEPTH}
-use Rattle.paper.specs.declared.Verdict.{Verdict}
-use Rattle.paper.specs.declared.Verdict.TheVariants.{Accepted, Refused}
+use Rattle.paper.specs.Judgements.{Verdict}
 use Rattle.blocks.specs.Nesting.{nesting}
 use Rattle.blocks.specs.Begins.{Lawful}
 use Rattle.blocks.specs.Descent.{BodyEnd, stopped, broken, ItemEnd, passed, closer, refused, on_item, closing, on_last, on_first, body, item, fuel, body_of, on_stream, descended}
@@ -107,7 +107,7 @@ mutual
       ∙ within (walked_body y n (nested (past_else ∷ w.kinds) w) (ap suc e) i m)
 
 -- a stream that is a body and END is accepted
-pub accepts : {a : Cut} {p q : ℕ} → Body 0 false false a (then (Closes End) p (out q)) → (n : ℕ) → nesting n a begin ≡ Accepted n
+pub accepts : {a : Cut} {p q : ℕ} → Body 0 false false a (then (Closes End) p (out q)) → (n : ℕ) → nesting n a begin ≡ Ok n
 unfolding nesting
 accepts x n = let l = walked_body x n begin refl refl refl in l.comes ∙ rw l.kept
 
@@ -115,12 +115,12 @@ accepts x n = let l = walked_body x n begin refl refl refl in l.comes ∙ rw l.k
 
 abbrev after_body : ℕ → WalkState → BodyEnd → Verdict
 after_body n w (stopped c p a) = nesting n (then (Closes c) p a) w
-after_body n w (broken r) = Refused r
+after_body n w (broken r) = Err r
 
 abbrev after_item : ℕ → WalkState → ItemEnd → Verdict
 after_item n w (passed a) = nesting n a w
 after_item n w (closer c p a) = nesting n (then (Closes c) p a) w
-after_item n w (refused r) = Refused r
+after_item n w (refused r) = Err r
 
 module _ (n : ℕ) (w : WalkState) where
   on_item_lem : (most : ℕ) (next : Cut → BodyEnd) → ((a : Cut) → fuel a + 3 ≤ most → nesting n a w ≡ after_body n w (next a)) →
@@ -228,7 +228,7 @@ mutual
       (body most depth (loops_in o (in_loop w.kinds)) w.phased a) (leaves_body most depth (loops_in o (in_loop w.kinds)) w.phased a)
 
 on_end_lem : (n p : ℕ) (a : Cut) (test : Bool) →
-    pick test (at_end n a) (Refused (refusal BLOCK p)) ≡ on_next (pick test finish (bad BLOCK)) n p a (λ next. nesting n a next)
+    pick test (at_end n a) (Err (refusal BLOCK p)) ≡ on_next (pick test finish (bad BLOCK)) n p a (λ next. nesting n a next)
 on_end_lem n p a true = refl
 on_end_lem n p a false = refl
 
@@ -243,22 +243,22 @@ unfolding descended body_of
 descent_is_walk n a = on_stream_lem n (body (fuel a) 0 false false a) ∙ sym (body_walked (fuel a) n a begin (omega arith))
 
 module _ (n m : ℕ) (a : Cut) where
-  end_accepted : (p : ℕ) (b : Cut) → Body 0 false false a (then (Closes End) p b) → at_end n b ≡ Accepted m → (m ≡ n) × Lawful a
+  end_accepted : (p : ℕ) (b : Cut) → Body 0 false false a (then (Closes End) p b) → at_end n b ≡ Ok m → (m ≡ n) × Lawful a
   end_accepted p (out q) x e = (cc, (p, q, x))
   end_accepted p (wrong q r) x e = unlike e
   end_accepted p (then c q b) x e = unlike e
 
   stopped_accepted : (c : Closer) (p : ℕ) (b : Cut) → Body 0 false false a (then (Closes c) p b) → (test : Bool) →
       is_end c ≡ test →
-      pick test (at_end n b) (Refused (refusal BLOCK p)) ≡ Accepted m → (m ≡ n) × Lawful a
+      pick test (at_end n b) (Err (refusal BLOCK p)) ≡ Ok m → (m ≡ n) × Lawful a
   stopped_accepted c p b x true t e = end_accepted p b (rw (is_end_lem c t) at x) e
   stopped_accepted c p b x false t e = unlike e
 
-  stream_accepted : (e : BodyEnd) → BodyDerived 0 false false a e → on_stream n e ≡ Accepted m → (m ≡ n) × Lawful a
+  stream_accepted : (e : BodyEnd) → BodyDerived 0 false false a e → on_stream n e ≡ Ok m → (m ≡ n) × Lawful a
   stream_accepted (stopped c p b) x e = stopped_accepted c p b x (is_end c) refl e
   stream_accepted (broken r) x e = unlike e
 
   -- a stream that the walk accepts is a body and END, with nothing behind, and the count is the one given
-  pub accepted : nesting n a begin ≡ Accepted m → (m ≡ n) × Lawful a
+  pub accepted : nesting n a begin ≡ Ok m → (m ≡ n) × Lawful a
   unfolding descended body_of
   accepted e = stream_accepted (body (fuel a) 0 false false a) (body_derived (fuel a) 0 false false a) (descent_is_walk n a ∙ e)

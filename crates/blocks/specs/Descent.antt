@@ -1,5 +1,5 @@
 -- The grammar as a descent: what a body, an item and a block take, or the refusal.
-use Rattle.std.specs.Prelude.{ℕ, zero, suc, Bool, false, ◌||◌, ltb}
+use Rattle.std.specs.Prelude.{ℕ, zero, suc, Bool, false, ◌||◌, ltb, Err}
 use Rattle.paper.specs.Notation.{pick}
 use Rattle.paper.specs.Numbers.{refusal}
 use Rattle.paper.specs.Blocks.{Cut, out, wrong, then, may_stand, class_phase, loops_in, most_open}
@@ -10,8 +10,7 @@ use Rattle.paper.specs.declared.Opener.{Opener}
 use Rattle.paper.specs.declared.Closer.{Closer}
 use Rattle.paper.specs.declared.Reason.TheVariants.{RunOut as RUN_OUT, Block as BLOCK, Depth as DEPTH}
 use Rattle.paper.specs.declared.Refusal.{Refusal}
-use Rattle.paper.specs.declared.Verdict.{Verdict}
-use Rattle.paper.specs.declared.Verdict.TheVariants.{Refused}
+use Rattle.paper.specs.Judgements.{Verdict}
 
 -- a body stops at a closer, with its position and what follows it, or is refused
 pub data BodyEnd : Type 0 where
@@ -83,8 +82,8 @@ block_of depth in_loop phased o a = block (fuel a) depth in_loop phased o a
 
 -- "a stream is a body and END"
 abbrev pub on_stream : ℕ → BodyEnd → Verdict
-on_stream count (stopped c p a) = pick (is_end c) (at_end count a) (Refused (refusal BLOCK p))
-on_stream count (broken r) = Refused r
+on_stream count (stopped c p a) = pick (is_end c) (at_end count a) (Err (refusal BLOCK p))
+on_stream count (broken r) = Err r
 
 -- the verdict of the descent, where a yes gives this count
 unfoldable pub descended : ℕ → Cut → Verdict

@@ -1,12 +1,11 @@
 -- Where a walk comes to, and a verdict whose positions are moved.
-use Rattle.std.specs.Prelude.{ℕ, ◌≡◌, List, [], ◌∷◌}
+use Rattle.std.specs.Prelude.{ℕ, ◌≡◌, List, [], ◌∷◌, Ok, Err}
 use Rattle.paper.specs.Numbers.{moved_by}
 use Rattle.paper.specs.Blocks.{Cut, out, wrong, then}
 use Rattle.paper.specs.Walk.{WalkState, step, Next, go, bad, finish}
 use Rattle.paper.specs.declared.Class.{Class}
 use Rattle.paper.specs.declared.Reason.TheVariants.{Tail as TAIL}
-use Rattle.paper.specs.declared.Verdict.{Verdict}
-use Rattle.paper.specs.declared.Verdict.TheVariants.{Accepted, Refused}
+use Rattle.paper.specs.Judgements.{Verdict}
 
 -- a walk at a, in the state w, comes to b in the state u
 pub data Reaches : Cut → WalkState → Cut → WalkState → Type 0 where
@@ -28,8 +27,8 @@ open_after w (c ∷ cs) = onwards (step w c) cs (λ next. open_after next cs)
 
 -- a verdict with its positions moved; a yes gives another count
 abbrev pub moved : ℕ → (ℕ → ℕ) → Verdict → Verdict
-moved count f (Accepted n) = Accepted count
-moved count f (Refused r) = Refused (moved_by f r)
+moved count f (Ok n) = Ok count
+moved count f (Err r) = Err (moved_by f r)
 
 unfoldable pub moved_cut : (ℕ → ℕ) → Cut → Cut
 moved_cut f (out p) = out (f p)

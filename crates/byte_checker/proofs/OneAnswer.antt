@@ -3,7 +3,7 @@ use Prim.Native.Nat.{ℕ}
 use mathlib.Core.Path.{◌≡◌, sym, ◌∙◌}
 use mathlib.Core.List.{List}
 use Rattle.paper.specs.Numbers.{told}
-use Rattle.paper.specs.declared.Verdict.{Verdict}
+use Rattle.paper.specs.Judgements.{Verdict}
 use Rattle.paper.proofs.OneToOne.{same_verdict}
 use Rattle.byte_checker.specs.Bytes.{bytes_verdict}
 

@@ -1,4 +1,5 @@
 -- The verdict of a byte range, in the order of document 01: LENGTH, VERSION, then the walk.
+use Rattle.std.specs.Prelude.{Err}
 use Prim.Native.Nat.{ℕ, ◌*◌, ◌/◌, ◌%◌, ◌<◌, ◌≤◌}
 use mathlib.Core.Path.{◌≡◌}
 use mathlib.Core.List.{List}
@@ -10,12 +11,11 @@ use Rattle.paper.specs.Numbers.{refusal}
 use Rattle.paper.specs.Versions.{named}
 use Rattle.paper.specs.Stream.{verdict, walked, on_named, most_tokens}
 use Rattle.paper.specs.declared.Reason.TheVariants.{Length as LENGTH}
-use Rattle.paper.specs.declared.Verdict.TheVariants.{Refused}
 use Rattle.byte_checker.specs.Bytes.{tokens_in, token_in, bytes_verdict}
 use Rattle.byte_checker.proofs.Tokens.{tokens_at, tokens_length}
 
 module _ (bytes : List ℕ) where
-  pub verdict_odd : (length bytes % 4 ≡ 0 → ⊥) → bytes_verdict bytes ≡ Refused (refusal LENGTH 0)
+  pub verdict_odd : (length bytes % 4 ≡ 0 → ⊥) → bytes_verdict bytes ≡ Err (refusal LENGTH 0)
   unfolding bytes_verdict
   verdict_odd h = rw (ne_eqb (length bytes % 4) 0 h)
 
@@ -23,13 +23,13 @@ module _ (bytes : List ℕ) where
   quarter h = omega (arith, div-add-mod' (length bytes) 4)
 
   module _ (h : length bytes % 4 ≡ 0) where
-    pub verdict_short : length bytes / 4 < 2 → bytes_verdict bytes ≡ Refused (refusal LENGTH 0)
+    pub verdict_short : length bytes / 4 < 2 → bytes_verdict bytes ≡ Err (refusal LENGTH 0)
     unfolding bytes_verdict verdict
     verdict_short lt =
         rw (eq-eqb (length bytes % 4) 0 h, tokens_length bytes (length bytes / 4) (quarter h), lt-leb 2 (length bytes / 4) lt)
 
     module _ (two : 2 ≤ length bytes / 4) where
-      pub verdict_long : most_tokens < length bytes / 4 → bytes_verdict bytes ≡ Refused (refusal LENGTH 0)
+      pub verdict_long : most_tokens < length bytes / 4 → bytes_verdict bytes ≡ Err (refusal LENGTH 0)
       unfolding bytes_verdict verdict
       verdict_long lt =
           rw (

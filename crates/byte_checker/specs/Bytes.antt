@@ -1,11 +1,10 @@
 -- Document 01, "What the build does": "it hands the check a byte range, tokens little-endian".
-use Rattle.std.specs.Prelude.{ℕ, ◌+◌, ◌*◌, ◌%◌, List, [], ◌∷◌, eqb, ltb, length, get_or}
+use Rattle.std.specs.Prelude.{ℕ, ◌+◌, ◌*◌, ◌%◌, List, [], ◌∷◌, eqb, ltb, length, get_or, Err}
 use Rattle.paper.specs.Notation.{pick}
 use Rattle.paper.specs.Numbers.{refusal}
 use Rattle.paper.specs.Stream.{verdict}
 use Rattle.paper.specs.declared.Reason.TheVariants.{Length as LENGTH}
-use Rattle.paper.specs.declared.Verdict.{Verdict}
-use Rattle.paper.specs.declared.Verdict.TheVariants.{Refused}
+use Rattle.paper.specs.Judgements.{Verdict}
 
 -- four bytes, the lowest first
 abbrev pub little_endian : ℕ → ℕ → ℕ → ℕ → ℕ
@@ -29,4 +28,4 @@ fitting n room = pick (ltb room n) room n
 
 -- LENGTH: "bytes not a multiple of 4"
 unfoldable pub bytes_verdict : List ℕ → Verdict
-bytes_verdict bytes = pick (eqb (length bytes % 4) 0) (verdict (tokens_in bytes)) (Refused (refusal LENGTH 0))
+bytes_verdict bytes = pick (eqb (length bytes % 4) 0) (verdict (tokens_in bytes)) (Err (refusal LENGTH 0))

@@ -1,4 +1,5 @@
 -- A stream is accepted, with a count, exactly if the grammar of document 01 derives it and the count is that of its cutting.
+use Rattle.std.specs.Prelude.{Option, Some, None, Ok}
 use Prim.Native.Nat.{ℕ}
 use mathlib.Core.Path.{◌≡◌, refl, ap, sym, ◌∙◌}
 use mathlib.Core.Bool.{Bool, true, false}
@@ -8,9 +9,6 @@ use Rattle.paper.specs.Numbers.{told}
 use Rattle.paper.specs.Versions.{named}
 use Rattle.paper.specs.Stream.{cut_from, walked, length_laid, verdict, checked}
 use Rattle.paper.specs.declared.Version.{Version}
-use Rattle.paper.specs.declared.Named.{Named}
-use Rattle.paper.specs.declared.Named.TheVariants.{Known, Unknown}
-use Rattle.paper.specs.declared.Verdict.TheVariants.{Accepted}
 use Rattle.blocks.proofs.WalkIsGrammar.{accepts, accepted}
 use Rattle.blocks.specs.Nesting.{count_of}
 use Rattle.blocks.proofs.Counting.{walked_nesting}
@@ -19,7 +17,7 @@ use Rattle.paper.proofs.StreamVerdict.{verdict_length, verdict_version, verdict_
 use Rattle.paper.proofs.OneToOne.{same_verdict}
 
 module _ (stream : List ℕ) (n : ℕ) where
-  walked_accepted : (v : Version) → length_laid (length stream) ≡ true → named (get_or stream 0 0) ≡ Known v → walked v stream ≡ Accepted n →
+  walked_accepted : (v : Version) → length_laid (length stream) ≡ true → named (get_or stream 0 0) ≡ Some v → walked v stream ≡ Ok n →
       Grammatical stream n
   walked_accepted v laid names e =
       let given = accepted (count_of (cut_from v stream 1)) n (cut_from v stream 1) (sym (walked_nesting v stream) ∙ e) in
@@ -33,27 +31,27 @@ module _ (stream : List ℕ) (n : ℕ) where
         counted = given.0;
       }
 
-  named_accepted : (name : Named) → named (get_or stream 0 0) ≡ name → length_laid (length stream) ≡ true → verdict stream ≡ Accepted n →
+  named_accepted : (name : Option Version) → named (get_or stream 0 0) ≡ name → length_laid (length stream) ≡ true → verdict stream ≡ Ok n →
       Grammatical stream n
-  named_accepted (Known v) names laid e = walked_accepted v laid names (sym (verdict_walked stream v laid names) ∙ e)
-  named_accepted Unknown names laid e = unlike (sym (verdict_version stream laid names) ∙ e)
+  named_accepted (Some v) names laid e = walked_accepted v laid names (sym (verdict_walked stream v laid names) ∙ e)
+  named_accepted None names laid e = unlike (sym (verdict_version stream laid names) ∙ e)
 
-  laid_accepted : (test : Bool) → length_laid (length stream) ≡ test → verdict stream ≡ Accepted n → Grammatical stream n
+  laid_accepted : (test : Bool) → length_laid (length stream) ≡ test → verdict stream ≡ Ok n → Grammatical stream n
   laid_accepted true laid e = named_accepted (named (get_or stream 0 0)) refl laid e
   laid_accepted false laid e = unlike (sym (verdict_length stream laid) ∙ e)
 
-  pub accepted_is_grammar : verdict stream ≡ Accepted n → Grammatical stream n
+  pub accepted_is_grammar : verdict stream ≡ Ok n → Grammatical stream n
   accepted_is_grammar e = laid_accepted (length_laid (length stream)) refl e
 
-  pub grammar_is_accepted : Grammatical stream n → verdict stream ≡ Accepted n
+  pub grammar_is_accepted : Grammatical stream n → verdict stream ≡ Ok n
   grammar_is_accepted g =
       verdict_walked stream g.version g.laid g.names
       ∙ walked_nesting g.version stream
-      ∙ accepts g.body (count_of (cut_from g.version stream 1)) ∙ ap Accepted (sym g.counted)
+      ∙ accepts g.body (count_of (cut_from g.version stream 1)) ∙ ap Ok (sym g.counted)
 
   -- the same of what a check tells
-  pub told_is_grammar : checked stream ≡ told (Accepted n) → Grammatical stream n
-  told_is_grammar e = accepted_is_grammar (same_verdict (verdict stream) (Accepted n) e)
+  pub told_is_grammar : checked stream ≡ told (Ok n) → Grammatical stream n
+  told_is_grammar e = accepted_is_grammar (same_verdict (verdict stream) (Ok n) e)
 
-  pub grammar_is_told : Grammatical stream n → checked stream ≡ told (Accepted n)
+  pub grammar_is_told : Grammatical stream n → checked stream ≡ told (Ok n)
   grammar_is_told g = ap told (grammar_is_accepted g)

@@ -21,8 +21,7 @@ use Rattle.paper.specs.declared.Opener.{Opener}
 use Rattle.paper.specs.declared.Closer.{Closer}
 use Rattle.paper.specs.declared.Refusal.{Refusal}
 use Rattle.paper.specs.declared.Reason.TheVariants.{RunOut as RUN_OUT, Block as BLOCK, Depth as DEPTH}
-use Rattle.paper.specs.declared.Judged.{Judged}
-use Rattle.paper.specs.declared.Judged.TheVariants.{Good, Refused as Wrong}
+use Rattle.paper.specs.Judgements.{Judged, good_instruction, bad_instruction}
 use Rattle.paper.specs.Walk.{counts}
 use Rattle.paper.proofs.OneToOne.{same_instruction}
 use Rattle.blocks.specs.Descent.{refused, item_of, block_of}
@@ -73,7 +72,7 @@ onward g h =
     }
 
 -- "no token where an instruction must start" is RUN-OUT at the token count
-out_is : (at : ℕ) (r : Refusal) → Wrong (refusal RUN_OUT 0) ≡ Wrong r →
+out_is : (at : ℕ) (r : Refusal) → bad_instruction (refusal RUN_OUT 0) ≡ bad_instruction r →
     refused (refusal RUN_OUT at) ≡ refused (moved_by (λ p. at + p) r)
 out_is at r e =
     let is : refusal RUN_OUT 0 ≡ r = cc in
@@ -85,7 +84,7 @@ module _ (v : Version) {s : List ℕ} {depth at m told : ℕ} (begun : StartsAt 
   judged_at = same_instruction _ _ e ∙ ap judged_from (begun.1 ∙ told_whole v s at) ∙ judged_back (length (drop at s)) (judged v (drop at s)) (judged_bit v (drop at s))
 
   -- an instruction that is good by itself
-  module _ {size : ℕ} {class : Class} (f : j ≡ Good size class) where
+  module _ {size : ℕ} {class : Class} (f : j ≡ good_instruction size class) where
     pub good_inside : at + 1 + size ≤ length s
     good_inside = omega (arith, ends_inside size class v s at (sym judged_at ∙ f))
 
@@ -167,7 +166,7 @@ module _ (v : Version) {s : List ℕ} {depth at m told : ℕ} (begun : StartsAt 
         }
 
   -- an instruction that is refused by itself
-  module _ {r : Refusal} (f : j ≡ Wrong r) where
+  module _ {r : Refusal} (f : j ≡ bad_instruction r) where
     pub wrong_inside : at + r.position ≤ length s
     wrong_inside =
         let fits : r.position ≤ length (drop at s) - 1 = subst (Within (Near (length (drop at s))) (length (drop at s))) (sym judged_at ∙ f) (judged_near v (drop at s)) in

@@ -4,7 +4,7 @@ use mathlib.Core.Path.{◌≡◌, sym, ◌∙◌}
 use mathlib.Core.List.{List}
 use Rattle.paper.specs.Numbers.{told}
 use Rattle.paper.specs.Stream.{verdict, checked}
-use Rattle.paper.specs.declared.Verdict.{Verdict}
+use Rattle.paper.specs.Judgements.{Verdict}
 use Rattle.paper.proofs.OneToOne.{same_verdict}
 
 -- an answer that keeps the promise of the check is the verdict of the stream

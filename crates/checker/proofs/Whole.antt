@@ -1,4 +1,5 @@
 -- From the body behind the version to the verdict of a stream.
+use Rattle.std.specs.Prelude.{Ok, Err}
 use Prim.Native.Nat.{ℕ, ◌+◌, ◌<◌, ◌≤◌}
 use mathlib.Core.Path.{◌≡◌, refl, ap, sym, subst, ◌∙◌}
 use mathlib.Core.Bool.{Bool, true, false}
@@ -18,9 +19,7 @@ use Rattle.paper.specs.declared.Closer.{Closer}
 use Rattle.paper.specs.declared.Closer.TheVariants.{Else, EndIf, EndLoop, EndRep, End}
 use Rattle.paper.specs.declared.Reason.TheVariants.{Tail as TAIL}
 use Rattle.paper.specs.declared.Refusal.{Refusal}
-use Rattle.paper.specs.declared.Judged.{Judged}
-use Rattle.paper.specs.declared.Judged.TheVariants.{Good, Refused as Wrong}
-use Rattle.paper.specs.declared.Verdict.TheVariants.{Accepted, Refused}
+use Rattle.paper.specs.Judgements.{Judged, good_instruction, bad_instruction}
 use Rattle.blocks.specs.Descent.{stopped, body_of, on_stream, descended}
 use Rattle.blocks.proofs.Cutting.{cut_none, cut_at}
 use Rattle.blocks.proofs.WalkIsGrammar.{descent_is_walk}
@@ -32,11 +31,11 @@ use Rattle.checker.specs.Ends.{body_end, Stops, BodyWithin, BodyIs, ending}
 
 module _ (v : Version) (s : List ℕ) where
   -- tokens behind END
-  tail_one : (k next : ℕ) (j : Judged) (rest : ℕ → Cut) → at_end k (cut_one j next rest) ≡ Refused (refusal TAIL next)
-  tail_one k next (Good size class) rest = refl
-  tail_one k next (Wrong r) rest = refl
+  tail_one : (k next : ℕ) (j : Judged) (rest : ℕ → Cut) → at_end k (cut_one j next rest) ≡ Err (refusal TAIL next)
+  tail_one k next (good_instruction size class) rest = refl
+  tail_one k next (bad_instruction r) rest = refl
 
-  tail : (k next : ℕ) → next < length s → at_end k (cut_from v s next) ≡ Refused (refusal TAIL next)
+  tail : (k next : ℕ) → next < length s → at_end k (cut_from v s next) ≡ Err (refusal TAIL next)
   tail k next h = ap (at_end k) (cut_at v s next h) ∙ tail_one k next (judged v (drop next s)) (λ n. cut_from v s (next + n))
 
   module _ (p next n : ℕ) (h : Stops v s 1 0 End p next n) where
@@ -46,11 +45,11 @@ module _ (v : Version) (s : List ℕ) where
     whole_count le = omega (arith, h.counted, ap count_of (cut_none v s next le))
 
     at_end_lem : (test : Bool) → ltb next (length s) ≡ test →
-        pick test (Refused (refusal TAIL next)) (Accepted n) ≡ at_end (count_of (cut_from v s 1)) (cut_from v s next)
+        pick test (Err (refusal TAIL next)) (Ok n) ≡ at_end (count_of (cut_from v s 1)) (cut_from v s next)
     at_end_lem true e = sym (tail (count_of (cut_from v s 1)) next (ltb-true next (length s) e))
     at_end_lem false e =
         let le : length s ≤ next = ltb-false next (length s) e in
-        ap Accepted (whole_count le) ∙ sym (ap (at_end (count_of (cut_from v s 1))) (cut_none v s next le))
+        ap Ok (whole_count le) ∙ sym (ap (at_end (count_of (cut_from v s 1))) (cut_none v s next le))
 
   stream_end : (c : Closer) (p next n : ℕ) → Stops v s 1 0 c p next n →
       ending (length s) c p next n ≡ on_stream (count_of (cut_from v s 1)) (stopped c p (cut_from v s next))
@@ -70,5 +69,5 @@ module _ {v : Version} {s : List ℕ} {r : BodyEnd} (h : BodyIs v s 0 false fals
       stream_end v s c p next n (subst (BodyWithin v s 1 0) e h.within)
       ∙ ap (on_stream (count_of (cut_from v s 1))) (ap (body_end v s) (sym e) ∙ h.is) ∙ whole v s
 
-  pub stream_broken : {f : Refusal} → r ≡ Broken f → Refused f ≡ walked v s
+  pub stream_broken : {f : Refusal} → r ≡ Broken f → Err f ≡ walked v s
   stream_broken e = ap (on_stream (count_of (cut_from v s 1))) (ap (body_end v s) (sym e) ∙ h.is) ∙ whole v s

@@ -1,5 +1,5 @@
 -- What the functions of the descent give back, in terms of the grammar's parts.
-use Rattle.std.specs.Prelude.{ℕ, ◌+◌, ◌^◌, ◌<◌, ◌≤◌, ◌≡◌, Bool, List, eqb, ltb, length}
+use Rattle.std.specs.Prelude.{ℕ, ◌+◌, ◌^◌, ◌<◌, ◌≤◌, ◌≡◌, Bool, List, eqb, ltb, length, Ok, Err}
 use Rattle.paper.specs.Notation.{pick}
 use Rattle.paper.specs.Numbers.{refusal}
 use Rattle.paper.specs.Blocks.{Cut, out, wrong, then, most_open}
@@ -13,8 +13,7 @@ use Rattle.paper.specs.declared.Opener.{Opener}
 use Rattle.paper.specs.declared.Closer.{Closer}
 use Rattle.paper.specs.declared.Closer.TheVariants.{End}
 use Rattle.paper.specs.declared.Reason.TheVariants.{RunOut as RUN_OUT, Block as BLOCK, Tail as TAIL}
-use Rattle.paper.specs.declared.Verdict.{Verdict}
-use Rattle.paper.specs.declared.Verdict.TheVariants.{Accepted, Refused as no_verdict}
+use Rattle.paper.specs.Judgements.{Verdict}
 use Rattle.blocks.specs.Descent
 use Rattle.blocks.specs.Descent.{stopped, broken, passed, closer, refused, body_of, item_of, block_of}
 use Rattle.checker.specs.Closers.{closer_number}
@@ -111,4 +110,4 @@ last_end own (Broken r) = Refused r
 -- the verdict of a stream of this length whose body stops at the closer c
 abbrev pub ending : ℕ → Closer → ℕ → ℕ → ℕ → Verdict
 ending most c p next n =
-    pick (eqb (closer_number c) (closer_number End)) (pick (ltb next most) (no_verdict (refusal TAIL next)) (Accepted n)) (no_verdict (refusal BLOCK p))
+    pick (eqb (closer_number c) (closer_number End)) (pick (ltb next most) (Err (refusal TAIL next)) (Ok n)) (Err (refusal BLOCK p))

@@ -1,4 +1,5 @@
 -- A stream is accepted exactly if it has a cutting that the grammar of the blocks derives, and the count is the cutting's.
+use Rattle.std.specs.Prelude.{Option, Some, None, Ok, Err}
 use Prim.Native.Nat.{ℕ, zero, suc, ◌+◌, ◌≤◌}
 use mathlib.Core.Path.{◌≡◌, refl, ap, sym, ◌∙◌}
 use mathlib.Core.Bool.{Bool, true, false}
@@ -13,17 +14,13 @@ use Rattle.paper.specs.Instruction.{judged}
 use Rattle.paper.specs.Blocks.{Cut, out, wrong, then, closer_of, Body, no_item, more, Item, one, block, Block, closed, with_else}
 use Rattle.paper.specs.Stream.{cut_one, cutting, cut_from, walked, length_laid, on_named, verdict}
 use Rattle.paper.specs.declared.Version.{Version}
-use Rattle.paper.specs.declared.Named.{Named}
-use Rattle.paper.specs.declared.Named.TheVariants.{Known, Unknown}
+use Rattle.paper.specs.Judgements.{Judged, good_instruction, bad_instruction}
 use Rattle.paper.specs.declared.Reason.TheVariants.{Length as LENGTH}
 use Rattle.paper.specs.declared.Opener.{Opener}
 use Rattle.paper.specs.declared.Opener.TheVariants.{If, Loop, Rep}
 use Rattle.paper.specs.declared.Closer.TheVariants.{Else, EndIf, EndLoop, EndRep, End}
 use Rattle.paper.specs.declared.Class.{Class}
 use Rattle.paper.specs.declared.Class.TheVariants.{One, Opens, Closes}
-use Rattle.paper.specs.declared.Judged.{Judged}
-use Rattle.paper.specs.declared.Judged.TheVariants.{Good, Refused}
-use Rattle.paper.specs.declared.Verdict.TheVariants.{Accepted, Refused as no_verdict}
 use Rattle.paper.specs.Walk.{counts}
 use Rattle.blocks.specs.Begins.{ends_stream}
 use Rattle.blocks.proofs.WalkIsGrammar.{accepts, accepted}
@@ -41,7 +38,7 @@ cut_nothing zero v p = refl
 cut_nothing (suc most) v p = refl
 
 alone_with : (v : Version) (first : ℕ) (rest : List ℕ) (class : Class) → Alone v first rest class → (other : List ℕ) →
-    judged v (first ∷ (rest ++ other)) ≡ Good (length rest) class
+    judged v (first ∷ (rest ++ other)) ≡ good_instruction (length rest) class
 alone_with v first rest class alone other = rw (take-length rest) at (good_alone (length rest) class v (first ∷ rest) other alone)
 
 cut_chunks : (most : ℕ) {v : Version} {chunks : List (List ℕ)} {classes : List Class} → Chunks v chunks classes → (p : ℕ) →
@@ -109,8 +106,8 @@ abbrev HasCutting : Version → List ℕ → Type 0
 HasCutting v tokens = (chunks : List (List ℕ)) × (classes : List Class) × Cutting v tokens chunks classes
 
 not_out : {A : Type 0} (judgement : Judged) (p : ℕ) (f : ℕ → Cut) → IsOut (cut_one judgement p f) → A
-not_out (Good size class) p f e = absurd e
-not_out (Refused r) p f e = absurd e
+not_out (good_instruction size class) p f e = absurd e
+not_out (bad_instruction r) p f e = absurd e
 
 out_nothing : (most : ℕ) (v : Version) (tokens : List ℕ) (p : ℕ) → length tokens ≤ most → IsOut (cutting most v tokens p) → tokens ≡ []
 unfolding cutting
@@ -130,7 +127,7 @@ end_class (Closes EndRep) e = apart (cc)
 end_class (Closes End) e = refl
 
 module _ (v : Version) (first : ℕ) (rest : List ℕ) where
-  module _ (size : ℕ) (class : Class) (good : judged v (first ∷ rest) ≡ Good size class) where
+  module _ (size : ℕ) (class : Class) (good : judged v (first ∷ rest) ≡ good_instruction size class) where
     own : Alone v first (take size rest) class
     own =
         let within = good_within size class v (first ∷ rest) good in
@@ -155,8 +152,8 @@ module _ (v : Version) (first : ℕ) (rest : List ℕ) where
   on_judged_lem : (judgement : Judged) → judged v (first ∷ rest) ≡ judgement → (p : ℕ) (f : ℕ → Cut) →
       ((n : ℕ) → IsOut (f (suc n)) → drop n rest ≡ []) → ((n : ℕ) → Ends (f (suc n)) → HasCutting v (drop n rest)) →
       Ends (cut_one judgement p f) → HasCutting v (first ∷ rest)
-  on_judged_lem (Good size class) good p f stop go e = on_class size class good (ends_stream class) refl (f (suc size)) (stop size) (go size) e
-  on_judged_lem (Refused r) good p f stop go e = absurd e
+  on_judged_lem (good_instruction size class) good p f stop go e = on_class size class good (ends_stream class) refl (f (suc size)) (stop size) (go size) e
+  on_judged_lem (bad_instruction r) good p f stop go e = absurd e
 
 chunks_of : (most : ℕ) (v : Version) (tokens : List ℕ) (p : ℕ) → length tokens ≤ most → Ends (cutting most v tokens p) → HasCutting v tokens
 unfolding cutting
@@ -170,7 +167,7 @@ chunks_of (suc most) v (first ∷ rest) p h e =
 -- an accepted stream is a cutting
 
 module _ (s : List ℕ) (n : ℕ) where
-  by_walk : (v : Version) → length_laid (length s) ≡ true → named (get_or s 0 0) ≡ Known v → walked v s ≡ Accepted n → LawfulStream s n
+  by_walk : (v : Version) → length_laid (length s) ≡ true → named (get_or s 0 0) ≡ Some v → walked v s ≡ Ok n → LawfulStream s n
   unfolding cut_from
   by_walk v long name e =
       let w = accepted (count_of (cut_from v s 1)) n (cut_from v s 1) (sym (walked_nesting v s) ∙ e) in
@@ -187,19 +184,19 @@ module _ (s : List ℕ) (n : ℕ) where
         is_count = sym (w.0 ∙ ap count_of same ∙ count_chunks c.2.0 1);
       }
 
-  by_tests : (long : Bool) → length_laid (length s) ≡ long → (name : Named) → named (get_or s 0 0) ≡ name →
-      pick long (on_named name (λ v. walked v s)) (no_verdict (refusal LENGTH 0)) ≡ Accepted n → LawfulStream s n
-  by_tests true l (Known v) m e = by_walk v l m e
-  by_tests true l Unknown m e = apart (cc)
+  by_tests : (long : Bool) → length_laid (length s) ≡ long → (name : Option Version) → named (get_or s 0 0) ≡ name →
+      pick long (on_named name (λ v. walked v s)) (Err (refusal LENGTH 0)) ≡ Ok n → LawfulStream s n
+  by_tests true l (Some v) m e = by_walk v l m e
+  by_tests true l None m e = apart (cc)
   by_tests false l name m e = apart (cc)
 
   -- an accepted stream has a cutting that the grammar derives, with as many instructions as the verdict says
-  pub accepted_is_a_cutting : verdict s ≡ Accepted n → LawfulStream s n
+  pub accepted_is_a_cutting : verdict s ≡ Ok n → LawfulStream s n
   unfolding verdict
   accepted_is_a_cutting e = by_tests (length_laid (length s)) refl (named (get_or s 0 0)) refl e
 
   -- a stream that has such a cutting is accepted, and the verdict gives the number of its instructions
-  pub a_cutting_is_accepted : LawfulStream s n → verdict s ≡ Accepted n
+  pub a_cutting_is_accepted : LawfulStream s n → verdict s ≡ Ok n
   unfolding verdict
   a_cutting_is_accepted c =
       rw (c.is_long, c.is_named, walked_nesting c.version s, cut_stream c.version s c.chunks c.classes c.is_cutting, count_chunks c.is_cutting.0 1, c.is_count)

@@ -11,7 +11,7 @@ use Rattle.paper.specs.declared.Single.TheVariants.{Comment}
 use Rattle.paper.specs.declared.Closer.TheVariants.{End}
 use Rattle.paper.specs.declared.Class.{Class}
 use Rattle.paper.specs.declared.Class.TheVariants.{One, Closes}
-use Rattle.paper.specs.declared.Judged.TheVariants.{Good}
+use Rattle.paper.specs.Judgements.{good_instruction}
 use Rattle.paper.proofs.Bools.{apart}
 use Rattle.paper.proofs.FirstToken.{other_not_end, comment_not_end, Says, is_broken, is_comment_lem, is_end_lem, is_listed, says}
 use Rattle.blocks.specs.Begins.{ends_stream}
@@ -21,7 +21,7 @@ use Rattle.cutting.specs.CutBy.{is_end_token}
 use Rattle.paper.proofs.OwnTokens.{operands_good, good_claim}
 
 module _ (v : Version) (first : ℕ) (rest : List ℕ) (class : Class) where
-  by_head_lem : (h : Head) → Says v first h → (behind : List ℕ) → on_claimed v h (opcode_of first) behind ≡ Good (length rest) class →
+  by_head_lem : (h : Head) → Says v first h → (behind : List ℕ) → on_claimed v h (opcode_of first) behind ≡ good_instruction (length rest) class →
       is_end_token first ≡ ends_stream class
   by_head_lem h (is_broken b) behind e = apart (cc)
   by_head_lem h (is_comment_lem o l) behind e = let is : One Comment ≡ class = cc in comment_not_end first o ∙ ap ends_stream is

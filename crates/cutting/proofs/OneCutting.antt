@@ -6,14 +6,14 @@ use lib.ListN.{length}
 use Rattle.paper.specs.Instruction.{token_head, claim}
 use Rattle.paper.specs.declared.Version.{Version}
 use Rattle.paper.specs.declared.Class.{Class}
-use Rattle.paper.specs.declared.Judged.TheVariants.{Good}
+use Rattle.paper.specs.Judgements.{good_instruction}
 use Rattle.cutting.specs.Cuttings.{Alone, Chunks, last, next, Cutting}
 use Rattle.paper.proofs.OwnTokens.{good_claim}
 use Rattle.cutting.proofs.CutBy.{cut_by_lem}
 
 -- a chunk has one class
 same_class : (v : Version) (first : ℕ) (rest : List ℕ) (c d : Class) → Alone v first rest c → Alone v first rest d → c ≡ d
-same_class v first rest c d e f = let same : Good (length rest) c ≡ Good (length rest) d = sym e ∙ f in cc
+same_class v first rest c d e f = let same : good_instruction (length rest) c ≡ good_instruction (length rest) d = sym e ∙ f in cc
 
 some : {A : Type 0} {v : Version} {classes : List Class} → Chunks v [] classes → A
 some = elim [ ]

@@ -15,7 +15,7 @@ use Rattle.paper.specs.Places.{entry_of}
 use Rattle.paper.specs.Instruction.{Head, token_head, claim, on_claimed}
 use Rattle.paper.specs.declared.Version.{Version}
 use Rattle.paper.specs.declared.Class.{Class}
-use Rattle.paper.specs.declared.Judged.TheVariants.{Good}
+use Rattle.paper.specs.Judgements.{good_instruction}
 use Rattle.paper.proofs.Bools.{apart, never}
 use Rattle.paper.proofs.VersionTokens.{each}
 use Rattle.paper.proofs.FirstToken.{Says, is_broken, is_comment_lem, is_end_lem, is_listed, says}
@@ -31,7 +31,7 @@ end_none v = eqb-true _ _ (each (λ v. eqb (by_opcode v end_opcode) 0) refl v)
 
 module _ (v : Version) (sizeless : has_sizes v ≡ false) where
   by_head_lem : (first : ℕ) (behind : List ℕ) (n : ℕ) (class : Class) → is_comment first ≡ false → (h : Head) → Says v first h →
-      on_claimed v h (opcode_of first) behind ≡ Good n class → claim h ≡ by_opcode v (opcode_of first)
+      on_claimed v h (opcode_of first) behind ≡ good_instruction n class → claim h ≡ by_opcode v (opcode_of first)
   by_head_lem first behind n class other h (is_broken b) e = apart (cc)
   by_head_lem first behind n class other h (is_comment_lem o l) e = never (sym (rw (eq-eqb (opcode_of first) comment_opcode o) at other))
   by_head_lem first behind n class other h (is_end_lem t) e = sym (ap (λ token. by_opcode v (opcode_of token)) t ∙ end_none v)

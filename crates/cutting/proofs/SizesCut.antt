@@ -1,4 +1,5 @@
 -- Stated sizes alone cut a lawful stream into the chunks of its cutting.
+use Rattle.std.specs.Prelude.{Ok}
 use Prim.Native.Nat.{ℕ}
 use mathlib.Core.Path.{◌≡◌, ◌∙◌}
 use mathlib.Core.List.{List, ◌++◌}
@@ -8,9 +9,8 @@ use Rattle.paper.specs.InstructionToken.{opcode_of, comment_opcode}
 use Rattle.paper.specs.Instruction.{Head, token_head, claim, on_claimed}
 use Rattle.paper.specs.declared.Version.{Version}
 use Rattle.paper.specs.declared.Class.{Class}
-use Rattle.paper.specs.declared.Judged.TheVariants.{Good}
+use Rattle.paper.specs.Judgements.{good_instruction}
 use Rattle.paper.specs.Stream.{verdict}
-use Rattle.paper.specs.declared.Verdict.TheVariants.{Accepted}
 use Rattle.paper.proofs.Bools.{apart}
 use Rattle.paper.proofs.FirstToken.{other_not_end, Says, is_broken, is_comment_lem, is_end_lem, is_listed, says}
 use Rattle.cutting.specs.Cuttings.{Alone, Cutting}
@@ -21,7 +21,7 @@ use Rattle.cutting.proofs.AcceptedIsACutting.{accepted_is_a_cutting}
 
 -- the stated size of a lawful instruction is that of its tokens, whatever stands behind them
 module _ (v : Version) (first : ℕ) (rest other : List ℕ) (class : Class) where
-  by_head_lem : (h : Head) → Says v first h → (behind : List ℕ) → on_claimed v h (opcode_of first) behind ≡ Good (length rest) class →
+  by_head_lem : (h : Head) → Says v first h → (behind : List ℕ) → on_claimed v h (opcode_of first) behind ≡ good_instruction (length rest) class →
       by_stated_size v first (rest ++ other) ≡ claim h
   by_head_lem h (is_broken b) behind e = apart (cc)
   by_head_lem h (is_comment_lem o l) behind e = rw (eq-eqb (opcode_of first) comment_opcode o)
@@ -39,7 +39,7 @@ pub sizes_cut : (v : Version) (tokens : List ℕ) (chunks : List (List ℕ)) (cl
 sizes_cut v tokens chunks classes c = cut_by_lem v (by_stated_size v) (size_right v) tokens chunks classes c
 
 -- an accepted stream is cut by stated sizes alone into the chunks of its cutting
-pub accepted_by_sizes : (s : List ℕ) (n : ℕ) (accept : verdict s ≡ Accepted n) →
+pub accepted_by_sizes : (s : List ℕ) (n : ℕ) (accept : verdict s ≡ Ok n) →
     by_sizes (accepted_is_a_cutting s n accept).version (drop 1 s) ≡ (accepted_is_a_cutting s n accept).chunks
 accepted_by_sizes s n accept =
     let c = accepted_is_a_cutting s n accept in

@@ -1,15 +1,14 @@
 -- A cutting of tokens: chunks whose concatenation is the tokens, each lawful alone, the last one END and no other one END.
-use Rattle.std.specs.Prelude.{ℕ, ◌+◌, ◌≡◌, true, false, List, [], ◌∷◌, ◌++◌, length, drop, get_or}
+use Rattle.std.specs.Prelude.{ℕ, ◌+◌, ◌≡◌, true, false, List, [], ◌∷◌, ◌++◌, length, drop, get_or, Some}
 use Rattle.paper.specs.Versions.{named}
 use Rattle.paper.specs.Instruction.{judged}
 use Rattle.paper.specs.Blocks.{Cut, out, then}
 use Rattle.paper.specs.Stream.{length_laid}
 use Rattle.paper.specs.declared.Version.{Version}
-use Rattle.paper.specs.declared.Named.TheVariants.{Known}
+use Rattle.paper.specs.Judgements.{good_instruction}
 use Rattle.paper.specs.declared.Class.{Class}
 use Rattle.paper.specs.declared.Class.TheVariants.{Closes}
 use Rattle.paper.specs.declared.Closer.TheVariants.{End}
-use Rattle.paper.specs.declared.Judged.TheVariants.{Good}
 use Rattle.paper.specs.Walk.{counts}
 use Rattle.blocks.specs.Begins.{ends_stream, Lawful}
 
@@ -20,7 +19,7 @@ joined (chunk ∷ chunks) = chunk ++ joined chunks
 
 -- a chunk is lawful alone: judged with nothing behind it, it is good, takes all its tokens, and has this class
 abbrev pub Alone : Version → ℕ → List ℕ → Class → Type 0
-Alone v first rest class = judged v (first ∷ rest) ≡ Good (length rest) class
+Alone v first rest class = judged v (first ∷ rest) ≡ good_instruction (length rest) class
 
 -- chunks with their classes: each lawful alone, the last one END and no other one END
 pub data Chunks (v : Version) : List (List ℕ) → List Class → Type 0 where
@@ -47,7 +46,7 @@ instructions (class ∷ classes) = counts class (instructions classes)
 pub record LawfulStream (stream : List ℕ) (n : ℕ) : Type 0 where
   pub is_long : length_laid (length stream) ≡ true
   pub version : Version
-  pub is_named : named (get_or stream 0 0) ≡ Known version
+  pub is_named : named (get_or stream 0 0) ≡ Some version
   pub chunks : List (List ℕ)
   pub classes : List Class
   pub is_cutting : Cutting version (drop 1 stream) chunks classes

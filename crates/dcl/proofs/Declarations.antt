@@ -15,10 +15,7 @@ use Rattle.versions.specs.Rows.{form_of}
 use Rattle.versions.proofs.Forms.{form_by_lem}
 use Rattle.paper.specs.declared.Version.{Version}
 use Rattle.paper.specs.declared.Reason.TheVariants.{Size as SIZE, Register as REGISTER}
-use Rattle.paper.specs.declared.Token.{Token}
-use Rattle.paper.specs.declared.Token.TheVariants.{Good, Bad}
-use Rattle.paper.specs.declared.Operands.{Operands}
-use Rattle.paper.specs.declared.Operands.TheVariants.{Fit}
+use Rattle.paper.specs.Judgements.{Token, good_token, bad_token, Operands, good_operands}
 use Rattle.paper.proofs.Bools.{never}
 use Rattle.paper.proofs.Faults.{is_good, declared_faultless, usage_faultless}
 use Rattle.told.specs.Numbered.{fault_number, operands_number}
@@ -32,8 +29,8 @@ no_destination v (u ∷ (d ∷ rest)) h = absurd (omega arith)
 
 -- what is told of a token that is not good
 bad_number : (t : Token) (position : ℕ) (next : Operands) → is_good t ≡ false → operands_number (on_declared t position next) ≡ fault_number (told_token t) position
-bad_number Good position next b = never (sym b)
-bad_number (Bad reason bit) position next b = refl
+bad_number good_token position next b = never (sym b)
+bad_number (bad_token reason bit) position next b = refl
 
 -- with two tokens and more: by the destination, by U, and by what is left over
 module _ (v : Version) where
@@ -57,7 +54,7 @@ module _ (v : Version) where
   unfolding declaration
   rest_last u d rest l t f = rw (l, t, f)
 
-  left_none : (rest : List ℕ) → length rest ≡ 0 → left_over rest ≡ Fit
+  left_none : (rest : List ℕ) → length rest ≡ 0 → left_over rest ≡ good_operands
   left_none [] e = refl
   left_none (token ∷ rest) e = absurd (omega arith)
 
@@ -89,7 +86,7 @@ module _ (v : Version) where
     usage_refused l t f = ap (λ (ts : List ℕ). operands_number (declaration v ts)) (there behind two) ∙ usage_next u d (drop 2 behind) l t f
 
     pub then_rest : laid v declared d && face_laid v d ≡ true → is_declared v (type_of d) ≡ true → usage_laid v (type_of d) u ≡ true →
-        ((length behind ≡ 2 → declaration v behind ≡ Fit) × ((length behind ≡ 2 → ⊥) → declaration v behind ≡ refused_operands SIZE 0))
+        ((length behind ≡ 2 → declaration v behind ≡ good_operands) × ((length behind ≡ 2 → ⊥) → declaration v behind ≡ refused_operands SIZE 0))
     then_rest l t f =
         let all = ap (declaration v) (there behind two) ∙ rest_last u d (drop 2 behind) l t f in
         let long = length-drop 2 behind in (

@@ -1,4 +1,5 @@
 -- The places of an accepted stream at which the reader stands are the boundaries of the edit.
+use Rattle.std.specs.Prelude.{Some, Ok}
 use Prim.Native.Nat.{ℕ, suc, ◌+◌, ◌<◌}
 use mathlib.Core.Path.{◌≡◌, refl, sym, ap, ◌∙◌}
 use mathlib.Core.Bool.{Bool, true, false, ◌||◌}
@@ -14,10 +15,8 @@ use Rattle.paper.specs.Blocks.{Cut, then}
 use Rattle.paper.specs.Walk.{WalkState, begin, Next, go, bad, finish, step}
 use Rattle.paper.specs.Stream.{cut_from, verdict}
 use Rattle.paper.specs.declared.Version.{Version}
-use Rattle.paper.specs.declared.Named.TheVariants.{Known}
+use Rattle.paper.specs.Judgements.{good_instruction}
 use Rattle.paper.specs.declared.Class.{Class}
-use Rattle.paper.specs.declared.Judged.TheVariants.{Good}
-use Rattle.paper.specs.declared.Verdict.TheVariants.{Accepted}
 use Rattle.blocks.specs.Begins.{Lawful, Leads, nothing, first, ends_stream}
 use Rattle.blocks.specs.Reach.{Reaches, here, past, open_after}
 use Rattle.blocks.proofs.Cutting.{cut_at}
@@ -44,7 +43,7 @@ among_later true p ps h = refl
 among_later false p ps h = h
 
 -- the sizes of one instruction, judged twice
-same_size : {m n : ℕ} {c d : Class} → Good m c ≡ Good n d → m ≡ n
+same_size : {m n : ℕ} {c d : Class} → good_instruction m c ≡ good_instruction n d → m ≡ n
 same_size e = cc
 
 -- where the walk comes to, a chunk begins
@@ -78,7 +77,7 @@ module _ (v : Version) (s : List ℕ) (lawful : Lawful (cut_from v s 1)) (p : �
     stands_here : p ≡ at → Stands
     stands_here e = rw (e, reached_standing v s at w l reached)
 
-    module _ (size : ℕ) (class : Class) (good : judged v (drop at s) ≡ Good size class) (other : ends_stream class ≡ false) where
+    module _ (size : ℕ) (class : Class) (good : judged v (drop at s) ≡ good_instruction size class) (other : ends_stream class ≡ false) where
       cut_here : cut_from v s at ≡ then class at (cut_from v s (at + suc size))
       cut_here = rw (cut_at v s at l, good)
 
@@ -108,10 +107,10 @@ module _ (v : Version) (s : List ℕ) (lawful : Lawful (cut_from v s 1)) (p : �
       (λ u r. among_stands later on (behind v first rest (joined chunks) alone s at h) u r (eqb p on) refl (rw t at a))
 
 -- a token names one version
-one_version : (token : ℕ) (v w : Version) → named token ≡ Known v → named token ≡ Known w → v ≡ w
-one_version token v w e f = let same : Known v ≡ Known w = sym e ∙ f in cc
+one_version : (token : ℕ) (v w : Version) → named token ≡ Some v → named token ≡ Some w → v ≡ w
+one_version token v w e f = let same : Some v ≡ Some w = sym e ∙ f in cc
 
-module _ (stream : List ℕ) (n : ℕ) (v : Version) (accept : verdict stream ≡ Accepted n) (name : named (get_or stream 0 0) ≡ Known v) where
+module _ (stream : List ℕ) (n : ℕ) (v : Version) (accept : verdict stream ≡ Ok n) (name : named (get_or stream 0 0) ≡ Some v) where
   lawful : LawfulStream stream n
   lawful = accepted_is_a_cutting stream n accept
 

@@ -15,7 +15,7 @@ use Rattle.paper.specs.declared.Version.{Version}
 use Rattle.paper.specs.declared.Class.{Class}
 use Rattle.paper.specs.declared.Class.TheVariants.{Closes}
 use Rattle.paper.specs.declared.Closer.TheVariants.{End}
-use Rattle.paper.specs.declared.Judged.TheVariants.{Good}
+use Rattle.paper.specs.Judgements.{good_instruction}
 use Rattle.blocks.specs.Begins.{ends_stream}
 use Rattle.cutting.specs.CutBy.{is_end_token}
 use Rattle.cutting.specs.Cuttings.{joined, Alone, Chunks, last, next}
@@ -42,7 +42,7 @@ module _ (v : Version) (first : ℕ) (rest : List ℕ) where
   end_read alone = rw (end_chunk alone)
 
   other_by : (size : ℕ) (class : Class) → is_end_token first ≡ false → (h : Head) → Says v first h → (behind : List ℕ) →
-      on_claimed v h (opcode_of first) behind ≡ Good size class → record_on h first rest ≡ end_record → ⊥
+      on_claimed v h (opcode_of first) behind ≡ good_instruction size class → record_on h first rest ≡ end_record → ⊥
   other_by size class no_end h (is_broken b) behind j same = apart (cc)
   other_by size class no_end h (is_comment_lem o l) behind j same = let z = ap (λ (r : Record). r.opcode) same in omega arith
   other_by size class no_end h (is_end_lem e) behind j same = eqb-false first end_token no_end e
@@ -63,7 +63,7 @@ module _ (v : Version) (first : ℕ) (rest other : List ℕ) (size : ℕ) (class
   body_by h (is_end_lem e) there = refl
   body_by h (is_listed o l b) there = rw o.no_comment
 
-  body_read : judged v (first ∷ rest) ≡ Good size class → take (body_length (record_of v (first ∷ rest))) (rest ++ other) ≡ comment_body v (first ∷ rest)
+  body_read : judged v (first ∷ rest) ≡ good_instruction size class → take (body_length (record_of v (first ∷ rest))) (rest ++ other) ≡ comment_body v (first ∷ rest)
   unfolding record_of comment_body
   body_read j =
       let g = good_claim size class v first rest j in

@@ -1,4 +1,5 @@
 -- Demand 1, entry by entry.
+use Rattle.std.specs.Prelude.{Option, Some, None, Ok, Err}
 use Prim.Native.Nat.{ℕ, ◌+◌, ◌/◌, ◌%◌, ◌≤◌}
 use mathlib.Core.Path.{◌≡◌, refl, subst, sym, ◌∙◌}
 use mathlib.Core.Bool.{Bool, true, false}
@@ -13,15 +14,10 @@ use Rattle.paper.specs.Versions.{named}
 use Rattle.paper.specs.Instruction.{judged}
 use Rattle.paper.specs.Stream.{most_tokens, length_laid, walked, verdict}
 use Rattle.paper.specs.declared.Version.{Version}
-use Rattle.paper.specs.declared.Named.{Named}
-use Rattle.paper.specs.declared.Named.TheVariants.{Known, Unknown}
+use Rattle.paper.specs.Judgements.{Judged, good_instruction, bad_instruction, Verdict}
 use Rattle.paper.specs.declared.Reason.{Reason}
 use Rattle.paper.specs.declared.Reason.TheVariants.{Length as LENGTH, Version as VERSION, RunOut as RUN_OUT, Place as PLACE, Room as ROOM}
 use Rattle.paper.specs.declared.Refusal.{Refusal}
-use Rattle.paper.specs.declared.Judged.{Judged}
-use Rattle.paper.specs.declared.Judged.TheVariants.{Good, Refused as Unlawful}
-use Rattle.paper.specs.declared.Verdict.{Verdict}
-use Rattle.paper.specs.declared.Verdict.TheVariants.{Accepted, Refused}
 use Rattle.byte_checker.specs.Bytes.{tokens_in, bytes_verdict}
 use Rattle.byte_checker.proofs.Tokens.{tokens_length}
 use Rattle.byte_checker.proofs.Verdicts.{quarter}
@@ -49,23 +45,23 @@ use Rattle.demands.specs.Demand1.{read_numbers, check_numbers, write_numbers, ed
 use Rattle.demands.proofs.NumbersAndPositions.{Fits, at_start_lem, at_token, widened, instruction_fits, refused_inside, check_fits}
 
 -- a check: its answer tells what its verdict is
-checked : (tokens shown : ℕ) (x : Verdict) → ((r : Refusal) → x ≡ Refused r → Fits check_numbers tokens r) →
+checked : (tokens shown : ℕ) (x : Verdict) → ((r : Refusal) → x ≡ Err r → Fits check_numbers tokens r) →
     (answer : Answer) → answer ≡ answer_of shown x → Tells check_numbers tokens answer.number answer.position answer.detail
 checked tokens shown x h answer e =
     subst (λ (a : Answer). Tells check_numbers tokens a.number a.position a.detail) (sym e) (this x h)
   where
-    this : (y : Verdict) → ((r : Refusal) → y ≡ Refused r → Fits check_numbers tokens r) →
+    this : (y : Verdict) → ((r : Refusal) → y ≡ Err r → Fits check_numbers tokens r) →
         Tells check_numbers tokens (answer_of shown y).number (answer_of shown y).position (answer_of shown y).detail
-    this (Accepted n) j = accepts
-    this (Refused r) j = refuses (j r refl)
+    this (Ok n) j = accepts
+    this (Err r) j = refuses (j r refl)
 
 -- bytes
-bytes_fit : (bytes : List ℕ) (r : Refusal) → bytes_verdict bytes ≡ Refused r → Fits check_numbers (length bytes / 4) r
+bytes_fit : (bytes : List ℕ) (r : Refusal) → bytes_verdict bytes ≡ Err r → Fits check_numbers (length bytes / 4) r
 unfolding bytes_verdict
 bytes_fit bytes r e = this (eqb (length bytes % 4) 0) refl e
   where
     this : (whole : Bool) → eqb (length bytes % 4) 0 ≡ whole →
-        pick whole (verdict (tokens_in bytes)) (Refused (refusal LENGTH 0)) ≡ Refused r → Fits check_numbers (length bytes / 4) r
+        pick whole (verdict (tokens_in bytes)) (Err (refusal LENGTH 0)) ≡ Err r → Fits check_numbers (length bytes / 4) r
     this true w f =
         let count = tokens_length bytes (length bytes / 4) (quarter bytes (eqb-true (length bytes % 4) 0 w)) in
         rw count at (check_fits (tokens_in bytes) r f)
@@ -79,8 +75,8 @@ module _ (tokens : List ℕ) (at : ℕ) where
 
   by_judged : (v : Version) (instruction : Record) → at ≤ length tokens → (judgement : Judged) → judged v (drop at tokens) ≡ judgement →
       AnswerFits (read_judged judgement at instruction).answer
-  by_judged v instruction h (Good size class) j = tt
-  by_judged v instruction h (Unlawful r) j =
+  by_judged v instruction h (good_instruction size class) j = tt
+  by_judged v instruction h (bad_instruction r) j =
       instruction_fits v (drop at tokens) r j (length tokens) (at + r.position) (refused_inside v tokens at r h j)
 
   by_place : (v : Version) (inside : Bool) → ltb at (length tokens) ≡ inside →
@@ -88,12 +84,12 @@ module _ (tokens : List ℕ) (at : ℕ) where
   by_place v true l = by_judged v (record_of v (drop at tokens)) (omega (arith, ltb-true at (length tokens) l)) (judged v (drop at tokens)) refl
   by_place v false l = at_token read_numbers (length tokens) 5 (length tokens) (omega arith) refl refl refl
 
-  by_version : (name : Named) → AnswerFits (on_version name tokens at).answer
+  by_version : (name : Option Version) → AnswerFits (on_version name tokens at).answer
   unfolding reading_at
-  by_version (Known v) = by_place v (ltb at (length tokens)) refl
-  by_version Unknown = at_start_lem read_numbers (length tokens) 2 refl refl
+  by_version (Some v) = by_place v (ltb at (length tokens)) refl
+  by_version None = at_start_lem read_numbers (length tokens) 2 refl refl
 
-  by_length : (name : Named) (few : Bool) → AnswerFits (pick few (on_version name tokens at) (unread LENGTH 0)).answer
+  by_length : (name : Option Version) (few : Bool) → AnswerFits (pick few (on_version name tokens at) (unread LENGTH 0)).answer
   by_length name true = by_version name
   by_length name false = at_start_lem read_numbers (length tokens) 1 refl refl
 
@@ -141,10 +137,10 @@ module _ (r : Refusal) where
   tested tokens true next reason start later e = later refl e
   tested tokens false next reason start later e = let f : refusal reason 0 ≡ r = cc in subst (Fits edit_numbers tokens) f start
 
-  refused_splice : (meets : Bool) (x : Verdict) (n : ℕ) → pick meets (Joined n) (on_verdict x n) ≡ Unedited r → x ≡ Refused r
+  refused_splice : (meets : Bool) (x : Verdict) (n : ℕ) → pick meets (Joined n) (on_verdict x n) ≡ Unedited r → x ≡ Err r
   refused_splice true x n e = apart (cc)
-  refused_splice false (Accepted c) n e = apart (cc)
-  refused_splice false (Refused y) n e = cc
+  refused_splice false (Ok c) n e = apart (cc)
+  refused_splice false (Err y) n e = cc
 
   module _ (room_of : ℕ) (old : List ℕ) (i j : ℕ) (run : List ℕ) where
     abbrev new : List ℕ
@@ -158,17 +154,17 @@ module _ (r : Refusal) where
         let f = refused_splice (meets_at_end v old i j run) (walked v (splice old i j run)) (new_length (length old) i j (length run)) e in
         widened check_numbers (12 ∷ 13 ∷ []) (check_fits (splice old i j run) r (splice_verdict a ∙ f))
 
-    in_version : (name : Named) → named (get_or old 0 0) ≡ name → length_laid (length old) ≡ true →
+    in_version : (name : Option Version) → named (get_or old 0 0) ≡ name → length_laid (length old) ≡ true →
         edit_named name
         (λ v. pick (placed v old i j) (pick (fits room_of (new_length (length old) i j (length run))) (spliced v old i j run) (edit_refused ROOM)) (edit_refused PLACE))
         ≡ Unedited r → Fits edit_numbers (length new) r
-    in_version (Known v) known laid e =
+    in_version (Some v) known laid e =
         tested (length new) (placed v old i j) (pick (fits room_of (new_length (length old) i j (length run))) (spliced v old i j run) (edit_refused ROOM)) PLACE
         (start_at 12 refl refl)
         (λ place.
         tested (length new) (fits room_of (new_length (length old) i j (length run))) (spliced v old i j run) ROOM (start_at 13 refl refl)
         (λ fit. by_walk v (record { laid = laid; known = known; place = place; fit = fit }))) e
-    in_version Unknown known laid e = let f : refusal VERSION 0 ≡ r = cc in subst (Fits edit_numbers (length new)) f (start_at 2 refl refl)
+    in_version None known laid e = let f : refusal VERSION 0 ≡ r = cc in subst (Fits edit_numbers (length new)) f (start_at 2 refl refl)
 
     edit_fits : edited room_of old i j run ≡ Unedited r → Fits edit_numbers (length new) r
     unfolding edited

@@ -1,4 +1,5 @@
 -- Demand 3: what is proved of an edit of a list, joined to an edit of the first n tokens of a buffer.
+use Rattle.std.specs.Prelude.{Some, Ok, Err}
 use Prim.Native.Nat.{ℕ, ◌≤◌}
 use mathlib.Core.Path.{◌≡◌, refl, ap, sym, ◌∙◌}
 use mathlib.Core.Bool.{true}
@@ -10,9 +11,7 @@ use lib.Seq.{length-take-le}
 use borrow.Author.Tests.{le-leb}
 use Rattle.paper.specs.Notation.{pick}
 use Rattle.paper.specs.Stream.{most_tokens, verdict}
-use Rattle.paper.specs.declared.Named.TheVariants.{Known}
 use Rattle.paper.specs.declared.Refusal.{Refusal}
-use Rattle.paper.specs.declared.Verdict.TheVariants.{Accepted as yes_verdict, Refused as no_verdict}
 use Rattle.cutting.proofs.AcceptedIsACutting.{accepted_is_a_cutting}
 use Rattle.paper.proofs.StreamVerdict.{verdict_walked}
 use Rattle.edit.specs.declared.Edited.TheVariants.{Joined, Accepted}
@@ -35,7 +34,7 @@ module _ (buffer : List ℕ) (n i j : ℕ) (run : List ℕ) (h : Replaces buffer
 
   -- both boundaries are of one version
   same_version : h.last.version ≡ h.first.version
-  same_version = let both : Known h.last.version ≡ Known h.first.version = sym h.last.is_named ∙ h.first.is_named in cc
+  same_version = let both : Some h.last.version ≡ Some h.first.version = sym h.last.is_named ∙ h.first.is_named in cc
 
   is_placed : placed h.first.version (take n buffer) i j ≡ true
   is_placed =
@@ -50,7 +49,7 @@ module _ (buffer : List ℕ) (n i j : ℕ) (run : List ℕ) (h : Replaces buffer
   unfolding edited_in
   in_buffer = rw (le-leb n (length buffer) h.is_held) refl
 
-  is_check : (count : ℕ) → verdict (take n buffer) ≡ yes_verdict count →
+  is_check : (count : ℕ) → verdict (take n buffer) ≡ Ok count →
       edit_refusal (edited_in buffer n i j run) ≡ check_refusal (verdict (edited_stream buffer n i j run))
   is_check count accepted =
       ap edit_refusal in_buffer
@@ -93,7 +92,7 @@ module _ (buffer : List ℕ) (n i j : ℕ) (run : List ℕ) (given : ℕ) where
       (holds_accepted buffer n i j run given e)
 
   -- a refusal of the old stream, moved
-  moved : (r : Refusal) → verdict (take n buffer) ≡ no_verdict r → edited_in buffer n i j run ≡ Joined given →
+  moved : (r : Refusal) → verdict (take n buffer) ≡ Err r → edited_in buffer n i j run ≡ Joined given →
       Moved (edited_stream buffer n i j run) i j (length run) r
   moved r e answer =
       let h = joined_held buffer n i j run given answer in
@@ -107,7 +106,7 @@ module _ (buffer : List ℕ) (n i j : ℕ) (run : List ℕ) (given : ℕ) where
         is_moved = carried_by i j (length run) r.position p.order behind;
       }
 
-module _ (stream : List ℕ) (count p : ℕ) (accept : verdict stream ≡ yes_verdict count) where
+module _ (stream : List ℕ) (count p : ℕ) (accept : verdict stream ≡ Ok count) where
   read_at : Boundary stream p → ReadPlace stream p
   read_at b = (boundary_is stream count b.version accept b.is_named p).1 b.is_reached
 

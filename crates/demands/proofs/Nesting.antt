@@ -1,4 +1,5 @@
 -- BLOCK and DEPTH, from the verdict of a stream to the grammar and back.
+use Rattle.std.specs.Prelude.{Some, Err}
 use Prim.Native.Nat.{ℕ, suc, ◌+◌, ◌≤◌, ◌<◌}
 use mathlib.Core.Path.{◌≡◌, refl, ap, sym, ◌∙◌}
 use mathlib.Core.Bool.{Bool, true, false, not}
@@ -13,14 +14,12 @@ use Rattle.paper.specs.Blocks.{then, most_open}
 use Rattle.paper.specs.Walk.{WalkState, begin, go, bad, step}
 use Rattle.paper.specs.Stream.{cut_from, length_laid, verdict}
 use Rattle.paper.specs.declared.Version.{Version}
-use Rattle.paper.specs.declared.Named.TheVariants.{Known}
+use Rattle.paper.specs.Judgements.{good_instruction}
 use Rattle.paper.specs.declared.Reason.{Reason}
 use Rattle.paper.specs.declared.Reason.TheVariants.{Length as LENGTH, Version as VERSION, RunOut as RUN_OUT, Block as BLOCK, Depth as DEPTH, Tail as TAIL}
 use Rattle.paper.specs.declared.Refusal.{Refusal}
 use Rattle.paper.specs.declared.Class.{Class}
 use Rattle.paper.specs.declared.Class.TheVariants.{One, Opens, Closes}
-use Rattle.paper.specs.declared.Judged.TheVariants.{Good}
-use Rattle.paper.specs.declared.Verdict.TheVariants.{Refused}
 use Rattle.blocks.specs.Begins.{Leads, nothing, first, Begins, ended, nesting_reason, reason_after}
 use Rattle.blocks.specs.Reach.{open_after}
 use Rattle.blocks.proofs.Cutting.{cut_at}
@@ -36,7 +35,7 @@ use Rattle.paper.proofs.OneInstruction.{judged_reason}
 use Rattle.demands.proofs.WhereRefused.{Refusing, runs_out, unlawful, breaks, trails, StreamRefused, for_length, for_version, in_walk, stream_refused, nesting_refused}
 
 -- a good instruction, and what follows it
-cut_good : (v : Version) (s : List ℕ) (p size : ℕ) (class : Class) → judged v (drop p s) ≡ Good size class →
+cut_good : (v : Version) (s : List ℕ) (p size : ℕ) (class : Class) → judged v (drop p s) ≡ good_instruction size class →
     cut_from v s p ≡ then class p (cut_from v s (p + suc size))
 cut_good v s p size class j =
     let inside : p < length s = omega (arith, good_inside size class v s p j) in
@@ -101,13 +100,13 @@ module _ (opener : Bool) where
       this false f = never f
 
 -- a nesting that the walk refuses breaks there
-module _ (s : List ℕ) (p : ℕ) (opener : Bool) (answer : verdict s ≡ Refused (refusal (reason_of opener) p)) (v : Version)
-    (laid : length_laid (length s) ≡ true) (known : named (get_or s 0 0) ≡ Known v) where
+module _ (s : List ℕ) (p : ℕ) (opener : Bool) (answer : verdict s ≡ Err (refusal (reason_of opener) p)) (v : Version)
+    (laid : length_laid (length s) ≡ true) (known : named (get_or s 0 0) ≡ Some v) where
   not_ended : (test : Bool) (class : Class) → pick test TAIL (nesting_reason class) ≡ reason_of opener → test ≡ false
   not_ended true class e = absurd (never_tail opener (sym e))
   not_ended false class e = refl
 
-  module _ (w : WalkState) (size : ℕ) (class : Class) (came : Comes v s 1 begin p w) (good : judged v (drop p s) ≡ Good size class)
+  module _ (w : WalkState) (size : ℕ) (class : Class) (came : Comes v s 1 begin p w) (good : judged v (drop p s) ≡ good_instruction size class)
       (refused : step w class ≡ bad (reason_of opener)) where
     passed : Passed v s 1 begin p w
     passed = comes_row came
@@ -123,7 +122,7 @@ module _ (s : List ℕ) (p : ℕ) (opener : Bool) (answer : verdict s ≡ Refuse
     no_end : ended passed.classes ≡ false
     no_end =
         let walk = nesting_refused v s (rw (cut_good v s p size class good) at (row_leads passed.row)) begun none_begins in
-        let both : Refused (refusal (reason_after passed.classes class) p) ≡ Refused (refusal (reason_of opener) p) =
+        let both : Err (refusal (reason_after passed.classes class) p) ≡ Err (refusal (reason_of opener) p) =
         sym walk ∙ sym (verdict_walked s v laid known) ∙ answer in
         let same : refusal (reason_after passed.classes class) p ≡ refusal (reason_of opener) p = cc in
         not_ended (ended passed.classes) class (ap (λ (r : Refusal). r.reason) same)
@@ -165,14 +164,14 @@ module _ (s : List ℕ) (p : ℕ) (opener : Bool) (answer : verdict s ≡ Refuse
       let at : q ≡ p = ap (λ (x : Refusal). x.position) e in
       let why : reason ≡ reason_of opener = ap (λ (x : Refusal). x.reason) e in
       let came : Comes v s 1 begin p u = rw at at c in
-      let good : judged v (drop p s) ≡ Good size class = rw at at j in
+      let good : judged v (drop p s) ≡ good_instruction size class = rw at at j in
       let refused : step u class ≡ bad (reason_of opener) = st ∙ ap bad why in
       (broken u size class came good refused, twenty_four u size class came good refused)
   by_walk (trails l) e = absurd (never_tail opener (sym (ap (λ (x : Refusal). x.reason) e)))
 
 -- and where a nesting breaks the stream is refused
 module _ (s : List ℕ) (p : ℕ) (opener : Bool) where
-  breaks_refused : BreaksAt s p opener → verdict s ≡ Refused (refusal (reason_of opener) p)
+  breaks_refused : BreaksAt s p opener → verdict s ≡ Err (refusal (reason_of opener) p)
   breaks_refused b =
       let v = b.version in
       let leads = rw (cut_good v s p b.size b.class b.is_good) at (row_leads b.are_good) in
@@ -180,7 +179,7 @@ module _ (s : List ℕ) (p : ℕ) (opener : Bool) where
       let why : nesting_reason b.class ≡ reason_of opener = nesting_by b.class ∙ ap reason_of b.is_opener in
       verdict_walked s v b.is_long b.is_named ∙ walk ∙ rw (b.have_no_end, why) refl
 
-  refused_breaks : (answer : verdict s ≡ Refused (refusal (reason_of opener) p)) →
+  refused_breaks : (answer : verdict s ≡ Err (refusal (reason_of opener) p)) →
       (b : BreaksAt s p opener) × (opener ≡ true → blocks_opened b.before ≡ most_open + blocks_closed b.before)
   refused_breaks answer = this (stream_refused s (refusal (reason_of opener) p) answer)
     where

@@ -1,4 +1,5 @@
 -- The numbers and positions of refusals: of one instruction, and of a stream.
+use Rattle.std.specs.Prelude.{Err}
 use Prim.Native.Nat.{ℕ, ◌+◌, ◌-◌, ◌≤◌}
 use mathlib.Core.Path.{◌≡◌, refl, subst, sym, ◌∙◌}
 use mathlib.Core.Bool.{Bool, true, false, ◌||◌}
@@ -17,8 +18,7 @@ use Rattle.paper.specs.declared.Reason.{Reason}
 use Rattle.paper.specs.declared.Refusal.{Refusal}
 use Rattle.paper.specs.declared.Class.{Class}
 use Rattle.paper.specs.declared.Class.TheVariants.{One, Opens, Closes}
-use Rattle.paper.specs.declared.Judged.TheVariants.{Refused as Unlawful}
-use Rattle.paper.specs.declared.Verdict.TheVariants.{Refused}
+use Rattle.paper.specs.Judgements.{bad_instruction}
 use Rattle.blocks.specs.Begins.{nesting_reason}
 use Rattle.blocks.proofs.Refused.{step_reason}
 use Rattle.paper.proofs.Bools.{apart}
@@ -66,7 +66,7 @@ widened numbers more {number = number} n = record {
 }
 
 -- one instruction
-pub instruction_fits : (v : Version) (own : List ℕ) (r : Refusal) → judged v own ≡ Unlawful r → (tokens position : ℕ) → position ≤ tokens →
+pub instruction_fits : (v : Version) (own : List ℕ) (r : Refusal) → judged v own ≡ bad_instruction r → (tokens position : ℕ) → position ≤ tokens →
     Numbered read_numbers tokens (number_of r.reason) position r.detail
 instruction_fits v own r e tokens position h =
     judged_reason (λ (reason : Reason) (bit : ℕ). Numbered read_numbers tokens (number_of reason) position bit) (told 3 0 refl refl refl) (told 4 0 refl refl refl)
@@ -84,7 +84,7 @@ instruction_fits v own r e tokens position h =
     told number bit t f d = at_bit_lem read_numbers tokens number position bit h t f d
 
 -- a refused instruction's position is at most the token count
-pub refused_inside : (v : Version) (s : List ℕ) (p : ℕ) (r : Refusal) → p ≤ length s → judged v (drop p s) ≡ Unlawful r → p + r.position ≤ length s
+pub refused_inside : (v : Version) (s : List ℕ) (p : ℕ) (r : Refusal) → p ≤ length s → judged v (drop p s) ≡ bad_instruction r → p + r.position ≤ length s
 refused_inside v s p r h j =
     let near : r.position ≤ length (drop p s) - 1 = rw j at (judged_near v (drop p s)) in
     omega (arith, length-drop p s)
@@ -106,7 +106,7 @@ walk_fits {v} {s} (breaks {q = q} {size = size} {class = class} {u = u} {reason 
 walk_fits {s = s} (trails {q = q} l) = at_token check_numbers (length s) 11 q (omega arith) refl refl refl
 
 -- a stream
-pub check_fits : (s : List ℕ) (r : Refusal) → verdict s ≡ Refused r → Fits check_numbers (length s) r
+pub check_fits : (s : List ℕ) (r : Refusal) → verdict s ≡ Err r → Fits check_numbers (length s) r
 check_fits s r e = this (stream_refused s r e)
   where
     this : StreamRefused s r → Fits check_numbers (length s) r

@@ -1,4 +1,5 @@
 -- What holds of the versions without sizes, joined.
+use Rattle.std.specs.Prelude.{Some, Err}
 use Prim.Native.Nat.{ℕ}
 use mathlib.Core.Path.{◌≡◌, sym, ◌∙◌}
 use mathlib.Core.Bool.{Bool, true, false}
@@ -11,14 +12,11 @@ use Rattle.paper.specs.Instruction.{judged}
 use Rattle.paper.specs.Walk.{WalkState}
 use Rattle.paper.specs.Stream.{most_tokens, verdict}
 use Rattle.paper.specs.declared.Version.{Version}
-use Rattle.paper.specs.declared.Named.TheVariants.{Known}
+use Rattle.paper.specs.Judgements.{Judged, good_instruction, bad_instruction}
 use Rattle.paper.specs.declared.Reason.TheVariants.{RunOut as RUN_OUT, Size as SIZE, Length as LENGTH}
 use Rattle.paper.specs.declared.Refusal.{Refusal}
 use Rattle.paper.specs.declared.Class.{Class}
 use Rattle.paper.specs.declared.Class.TheVariants.{One, Opens, Closes}
-use Rattle.paper.specs.declared.Judged.{Judged}
-use Rattle.paper.specs.declared.Judged.TheVariants.{Good, Refused as Unlawful}
-use Rattle.paper.specs.declared.Verdict.TheVariants.{Refused}
 use Rattle.paper.proofs.Bools.{apart}
 use Rattle.paper.proofs.VersionTokens.{named_back}
 use Rattle.paper.proofs.Sizeless.{NotSize, no_size, passes_end}
@@ -39,7 +37,7 @@ nesting_not (Opens o) e = apart (cc)
 nesting_not (Closes c) e = apart (cc)
 
 module _ (v : Version) (states_none : has_sizes v ≡ false) where
-  instruction_not : (tokens : List ℕ) (r : Refusal) → judged v tokens ≡ Unlawful r → r.reason ≡ SIZE → ⊥
+  instruction_not : (tokens : List ℕ) (r : Refusal) → judged v tokens ≡ bad_instruction r → r.reason ≡ SIZE → ⊥
   instruction_not tokens r j = rw j at (no_size v tokens states_none)
 
   -- a check
@@ -49,14 +47,14 @@ module _ (v : Version) (states_none : has_sizes v ≡ false) where
   walk_not (breaks {class = class} {u = u} {reason = reason} c j st) e = nesting_not class (sym (step_reason class u reason st) ∙ e)
   walk_not (trails l) e = apart (cc)
 
-  check_not : (s : List ℕ) (r : Refusal) → named (get_or s 0 0) ≡ Known v → verdict s ≡ Refused r → r.reason ≡ SIZE → ⊥
+  check_not : (s : List ℕ) (r : Refusal) → named (get_or s 0 0) ≡ Some v → verdict s ≡ Err r → r.reason ≡ SIZE → ⊥
   check_not s r known e = this (stream_refused s r e)
     where
       this : StreamRefused s r → r.reason ≡ SIZE → ⊥
       this (for_length f) h = apart (cc)
       this (for_version f) h = apart (cc)
       this (in_walk x laid name w) h =
-          let both : Known x ≡ Known v = sym name ∙ known in
+          let both : Some x ≡ Some v = sym name ∙ known in
           let same : x ≡ v = cc in
           walk_not (rw same at w) h
 
@@ -66,8 +64,8 @@ module _ (v : Version) (states_none : has_sizes v ≡ false) where
   AnswerNot (Unread r) = r.reason ≡ SIZE → ⊥
 
   judged_not : (at : ℕ) (instruction : Record) (judgement : Judged) → NotSize judgement → AnswerNot (read_judged judgement at instruction).answer
-  judged_not at instruction (Good size class) h = tt
-  judged_not at instruction (Unlawful r) h = h
+  judged_not at instruction (good_instruction size class) h = tt
+  judged_not at instruction (bad_instruction r) h = h
 
   module _ (tokens : List ℕ) (at : ℕ) where
     place_not : (inside : Bool) →

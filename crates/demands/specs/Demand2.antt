@@ -5,11 +5,10 @@
 -- The check promises `verdict`, the reader promises `reading`, the writer promises `Writes`, and the parts below are said of
 -- these. Streams, bodies and buffers are lists of numbers; where it matters that a token has 32 bits, `Words` says that each is below 2^32.
 -- `proofs/Demand2.antt` proves `demand_2 : Demand2`, the last definition of this file. Each part names two wrong programs that it rules out.
-use Rattle.std.specs.Prelude.{ℕ, suc, ◌+◌, ◌-◌, ◌≤◌, ◌≡◌, List, length, take, drop, get_or}
+use Rattle.std.specs.Prelude.{ℕ, suc, ◌+◌, ◌-◌, ◌≤◌, ◌≡◌, List, length, take, drop, get_or, Ok}
 use Rattle.paper.specs.Stream.{verdict}
 use Rattle.paper.specs.declared.Version.{Version}
 use Rattle.paper.specs.declared.Class.{Class}
-use Rattle.paper.specs.declared.Verdict.TheVariants.{Accepted}
 use Rattle.cutting.specs.Cuttings.{Cutting, LawfulStream}
 use Rattle.cutting.specs.BySize.{by_sizes}
 use Rattle.cutting.specs.ByOperands.{by_operands}
@@ -74,8 +73,8 @@ pub record Demand2 : Type 0 where
   -- classes are a body and END by the grammar.
   -- A check that always refuses, or always accepts, is ruled out: there are streams that are lawful, and others.
   -- A check that reads the first instruction and waves the rest through is ruled out: every chunk is lawful.
-  pub is_lawful : (stream : List ℕ) (n : ℕ) → verdict stream ≡ Accepted n → LawfulStream stream n
-  pub is_accepted : (stream : List ℕ) (n : ℕ) → LawfulStream stream n → verdict stream ≡ Accepted n
+  pub is_lawful : (stream : List ℕ) (n : ℕ) → verdict stream ≡ Ok n → LawfulStream stream n
+  pub is_accepted : (stream : List ℕ) (n : ℕ) → LawfulStream stream n → verdict stream ≡ Ok n
   -- such a stream is cut, read and written as the parts above say
   pub is_cut_read_written : (stream : List ℕ) (n : ℕ) (lawful : LawfulStream stream n) → CutReadWritten stream n lawful
   -- "Each record that can be written reads back as itself": what the writer says yes to, in any version, with any body, at any place of any buffer,

@@ -3,15 +3,13 @@
 -- reading early where it may."
 --
 -- All is stated of a buffer and a used length n, as the entry takes them: the old stream is the first n tokens of the buffer.
-use Rattle.std.specs.Prelude.{ℕ, ◌+◌, ◌-◌, ◌≤◌, ◌≡◌, true, List, ◌⊎◌, length, take, drop, get_or}
+use Rattle.std.specs.Prelude.{ℕ, ◌+◌, ◌-◌, ◌≤◌, ◌≡◌, true, List, ◌⊎◌, length, take, drop, get_or, Some, Ok, Err}
 use Rattle.paper.specs.Notation.{pick}
 use Rattle.paper.specs.Numbers.{moved_by}
 use Rattle.paper.specs.Versions.{named}
 use Rattle.paper.specs.Stream.{most_tokens, verdict}
 use Rattle.paper.specs.declared.Version.{Version}
-use Rattle.paper.specs.declared.Named.TheVariants.{Known}
 use Rattle.paper.specs.declared.Refusal.{Refusal}
-use Rattle.paper.specs.declared.Verdict.TheVariants.{Accepted as yes_verdict, Refused as no_verdict}
 use Rattle.edit.specs.declared.Edited.{Edited}
 use Rattle.edit.specs.declared.Edited.TheVariants.{Joined, Accepted, Refused}
 use Rattle.edit.specs.Boundaries.{standing_at, is_boundary}
@@ -23,7 +21,7 @@ use Rattle.demands.specs.Reading.{ReadPlace}
 -- and including END that a walk of the old stream reaches, a refused instruction's own included; the token count is none."
 pub record Boundary (stream : List ℕ) (p : ℕ) : Type 0 where
   pub version : Version
-  pub is_named : named (get_or stream 0 0) ≡ Known version
+  pub is_named : named (get_or stream 0 0) ≡ Some version
   pub is_reached : is_boundary (standing_at version stream p) ≡ true
 
 -- "replace the tokens between two instruction boundaries by any run that fits the room"
@@ -53,18 +51,18 @@ pub record Holds (before after stream : List ℕ) (tokens : ℕ) : Type 0 where
 -- a stream is refused as the old one was: "the same number, the position moved by m - (j - i)", and with the same detail
 pub record Moved (stream : List ℕ) (i j m : ℕ) (r : Refusal) : Type 0 where
   pub position : ℕ
-  pub is_refused : verdict stream ≡ no_verdict (moved_by (λ old. position) r)
+  pub is_refused : verdict stream ≡ Err (moved_by (λ old. position) r)
   pub is_moved : position + (j - i) ≡ r.position + m
 
 pub record Demand3 : Type 0 where
   -- "two instruction boundaries": of an accepted stream they are the places at which the reader of demand 2 gives its records, END's among them.
   -- This rules out an edit that takes places only before instructions that are counted, and one that takes the place behind END.
-  pub boundary_is_read : (stream : List ℕ) (count p : ℕ) → verdict stream ≡ yes_verdict count → Boundary stream p → ReadPlace stream p
-  pub read_is_boundary : (stream : List ℕ) (count p : ℕ) → verdict stream ≡ yes_verdict count → ReadPlace stream p → Boundary stream p
+  pub boundary_is_read : (stream : List ℕ) (count p : ℕ) → verdict stream ≡ Ok count → Boundary stream p → ReadPlace stream p
+  pub read_is_boundary : (stream : List ℕ) (count p : ℕ) → verdict stream ≡ Ok count → ReadPlace stream p → Boundary stream p
   -- The demand. Of an accepted stream the edit and a check of the edited stream have the same refusal, in number, position and detail, or both say
   -- yes and have none. This rules out an edit that judges the run alone, which lets a lonely ENDIF in, and one that says JOINED on equal depth, which
   -- takes an IF for a REP.
-  pub edit_is_a_check : (buffer : List ℕ) (n i j : ℕ) (run : List ℕ) (count : ℕ) → verdict (take n buffer) ≡ yes_verdict count →
+  pub edit_is_a_check : (buffer : List ℕ) (n i j : ℕ) (run : List ℕ) (count : ℕ) → verdict (take n buffer) ≡ Ok count →
       Replaces buffer n i j run → edit_refusal (edited_in buffer n i j run) ≡ check_refusal (verdict (edited_stream buffer n i j run))
   -- A yes, JOINED or ACCEPTED, gives the length of the edited stream; the buffer then holds that stream, and what lies past it is as
   -- before. This rules out an edit that answers and writes nothing, and one that gives the old length where the run is shorter than what it
@@ -89,6 +87,6 @@ pub record Demand3 : Type 0 where
   -- JOINED of a refused stream: a check of the edited stream, which is what the buffer then holds, refuses with the same number at the
   -- moved position. This rules out an edit that says JOINED where the run made the stream lawful, and one that says it where the run broke
   -- the stream before the old refusal.
-  pub joined_of_refused : (buffer : List ℕ) (n i j : ℕ) (run : List ℕ) (given : ℕ) (r : Refusal) → verdict (take n buffer) ≡ no_verdict r →
+  pub joined_of_refused : (buffer : List ℕ) (n i j : ℕ) (run : List ℕ) (given : ℕ) (r : Refusal) → verdict (take n buffer) ≡ Err r →
       edited_in buffer n i j run ≡ Joined given →
       Moved (edited_stream buffer n i j run) i j (length run) r × Moved (take given (buffer_after buffer n i j run)) i j (length run) r

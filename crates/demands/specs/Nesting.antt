@@ -3,21 +3,19 @@
 -- The grammar of document 01 is the definition: a row of classes begins a lawful stream if some body and END has these classes first.
 -- That is said of classes alone and not of tokens, so no limit of length enters: a row that 16,384 tokens leave no room to close begins
 -- a lawful stream all the same.
-use Rattle.std.specs.Prelude.{ℕ, suc, ◌+◌, ◌≡◌, Bool, true, false, List, [], ◌∷◌, ◌++◌, length, drop, get_or}
+use Rattle.std.specs.Prelude.{ℕ, suc, ◌+◌, ◌≡◌, Bool, true, false, List, [], ◌∷◌, ◌++◌, length, drop, get_or, Some, Err}
 use Rattle.paper.specs.Numbers.{refusal}
 use Rattle.paper.specs.Versions.{named}
 use Rattle.paper.specs.Instruction.{judged}
 use Rattle.paper.specs.Blocks.{most_open}
 use Rattle.paper.specs.Stream.{length_laid, verdict}
 use Rattle.paper.specs.declared.Version.{Version}
-use Rattle.paper.specs.declared.Named.TheVariants.{Known}
+use Rattle.paper.specs.Judgements.{good_instruction}
 use Rattle.paper.specs.declared.Reason.TheVariants.{Block as BLOCK, Depth as DEPTH}
 use Rattle.paper.specs.declared.Class.{Class}
 use Rattle.paper.specs.declared.Class.TheVariants.{One, Opens, Closes}
 use Rattle.paper.specs.declared.Closer.{Closer}
 use Rattle.paper.specs.declared.Closer.TheVariants.{Else, EndIf, EndLoop, EndRep, End}
-use Rattle.paper.specs.declared.Judged.TheVariants.{Good}
-use Rattle.paper.specs.declared.Verdict.TheVariants.{Refused}
 use Rattle.blocks.specs.Begins.{Begins, ended}
 
 -- instructions one behind the other, from position p up to position q: each is good by itself, nothing from OPCODE to SIZE refuses it, and
@@ -25,7 +23,7 @@ use Rattle.blocks.specs.Begins.{Begins, ended}
 pub data GoodRow (v : Version) (s : List ℕ) : ℕ → List Class → ℕ → Type 0 where
   standing : {p : ℕ} → GoodRow v s p [] p
   next : {p q size : ℕ} {class : Class} {classes : List Class} →
-      judged v (drop p s) ≡ Good size class → GoodRow v s (p + suc size) classes q → GoodRow v s p (class ∷ classes) q
+      judged v (drop p s) ≡ good_instruction size class → GoodRow v s (p + suc size) classes q → GoodRow v s p (class ∷ classes) q
 
 -- an instruction that opens a block
 abbrev pub opens : Class → Bool
@@ -39,14 +37,14 @@ opens (Closes c) = false
 pub record BreaksAt (s : List ℕ) (p : ℕ) (opener : Bool) : Type 0 where
   pub is_long : length_laid (length s) ≡ true
   pub version : Version
-  pub is_named : named (get_or s 0 0) ≡ Known version
+  pub is_named : named (get_or s 0 0) ≡ Some version
   pub before : List Class
   pub are_good : GoodRow version s 1 before p
   pub have_no_end : ended before ≡ false
   pub begin : Begins before
   pub size : ℕ
   pub class : Class
-  pub is_good : judged version (drop p s) ≡ Good size class
+  pub is_good : judged version (drop p s) ≡ good_instruction size class
   pub is_opener : opens class ≡ opener
   pub begin_none : Begins (before ++ class ∷ []) → ⊥
 
@@ -73,10 +71,10 @@ blocks_closed (Closes c ∷ classes) = closes_one c (blocks_closed classes)
 pub record Nesting : Type 0 where
   -- BLOCK at p, both ways: exactly if the nesting breaks at an instruction that opens no block. This rules out a check that counts openers
   -- and closers, which lets ENDREP close an IF, and one that finds a second ELSE only at the ENDIF.
-  pub block_breaks : (s : List ℕ) (p : ℕ) → verdict s ≡ Refused (refusal BLOCK p) → BreaksAt s p false
-  pub breaks_block : (s : List ℕ) (p : ℕ) → BreaksAt s p false → verdict s ≡ Refused (refusal BLOCK p)
+  pub block_breaks : (s : List ℕ) (p : ℕ) → verdict s ≡ Err (refusal BLOCK p) → BreaksAt s p false
+  pub breaks_block : (s : List ℕ) (p : ℕ) → BreaksAt s p false → verdict s ≡ Err (refusal BLOCK p)
   -- DEPTH at p, both ways: exactly if it breaks at one that opens a block; 24 of the blocks opened before are then not closed. This rules
   -- out a check that lets 25 blocks stand open, and one that counts all blocks opened so far and not those open.
-  pub depth_breaks : (s : List ℕ) (p : ℕ) → verdict s ≡ Refused (refusal DEPTH p) →
+  pub depth_breaks : (s : List ℕ) (p : ℕ) → verdict s ≡ Err (refusal DEPTH p) →
       (b : BreaksAt s p true) × (blocks_opened b.before ≡ most_open + blocks_closed b.before)
-  pub breaks_depth : (s : List ℕ) (p : ℕ) → BreaksAt s p true → verdict s ≡ Refused (refusal DEPTH p)
+  pub breaks_depth : (s : List ℕ) (p : ℕ) → BreaksAt s p true → verdict s ≡ Err (refusal DEPTH p)

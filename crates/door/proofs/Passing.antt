@@ -17,12 +17,9 @@ use Rattle.paper.specs.Instruction.{Head, operation, token_head, claimed, operan
 use Rattle.paper.specs.Places.{Types, Place, listed, entry_of, destination, source}
 use Rattle.paper.specs.declared.Version.{Version}
 use Rattle.paper.specs.declared.Reason.TheVariants.{RunOut as RUN_OUT}
-use Rattle.paper.specs.declared.Operands.{Operands}
-use Rattle.paper.specs.declared.Operands.TheVariants.{Fit, Refused as unfit}
+use Rattle.paper.specs.Judgements.{Operands, good_operands, bad_operands, Judged, good_instruction, bad_instruction}
 use Rattle.paper.specs.declared.Class.TheVariants.{One}
 use Rattle.paper.specs.declared.Single.TheVariants.{Plain}
-use Rattle.paper.specs.declared.Judged.{Judged}
-use Rattle.paper.specs.declared.Judged.TheVariants.{Good, Refused}
 use Rattle.paper.proofs.Bools.{both_left, both_right, apart, never}
 use Rattle.paper.proofs.FirstToken.{stray_comment, stray_end, no_row_lem, stray_bits, Says, is_broken, is_comment_lem, is_end_lem, is_listed, says}
 use Rattle.shapes.proofs.Table.{limit, beyond}
@@ -91,7 +88,7 @@ module _ (v : Version) (first : ℕ) (common : is_common v first ≡ true) (some
   pub judged_row : (behind : List ℕ) (left : ℕ) → judged_in v first behind left ≡
       pick (leb (claim_for v first kind.count) (length behind))
       (on_operands (operands v row 1 (take (claim_for v first kind.count) behind)) (claim_for v first kind.count) (One Plain))
-      (Refused (refusal RUN_OUT 0))
+      (bad_instruction (refusal RUN_OUT 0))
   unfolding judged_in
   judged_row behind left =
       rw (head_by (token_head v first) (says v first), uniform_declares v (opcode_of first) some, uniform_plain v (opcode_of first) some) refl
@@ -120,12 +117,12 @@ module _ (v : Version) (first : ℕ) (behind : List ℕ) where
     row_of_lem = places_of (uniform_of v (opcode_of first))
 
     judged_here : (left : ℕ) → judged_in v first behind left ≡
-        pick (leb claim (length behind)) (on_operands (operands v row_of_lem 1 (take claim behind)) claim (One Plain)) (Refused (refusal RUN_OUT 0))
+        pick (leb claim (length behind)) (on_operands (operands v row_of_lem 1 (take claim behind)) claim (One Plain)) (bad_instruction (refusal RUN_OUT 0))
     judged_here left = rw claim_same (judged_row v first is.0 there behind left)
 
     yes_by : (o : Operands) → yes_of (on_operands o claim (One Plain)) ≡ pick (is_fit o) (yes_number claim 1) 0
-    yes_by Fit = refl
-    yes_by (unfit r) = refl
+    yes_by good_operands = refl
+    yes_by (bad_operands r) = refl
 
     -- more tokens are claimed than there are
     pub passes_short : leb claim (length behind) ≡ false → passed v first behind ≡ 0
@@ -178,8 +175,8 @@ unfolding passed
 door_law v first behind left pass = by (eqb (count_of v first) 0) refl pass
   where
     yes_told : (j : Judged) → (yes_of j ≡ 0 → ⊥) → yes_of j ≡ judged_number j
-    yes_told (Good size class) h = refl
-    yes_told (Refused r) h = absurd (h refl)
+    yes_told (good_instruction size class) h = refl
+    yes_told (bad_instruction r) h = absurd (h refl)
 
     by : (none : Bool) → eqb (count_of v first) 0 ≡ none → (pick none 0 (yes_of (judged_in v first behind (length behind))) ≡ 0 → ⊥) →
         pick none 0 (yes_of (judged_in v first behind (length behind))) ≡ judged_number (judged_in v first behind left)

@@ -15,11 +15,8 @@ use Rattle.paper.specs.Instruction.{operand, operands}
 use Rattle.paper.specs.InstructionToken.{opcode_of, controls_of, is_predicated}
 use Rattle.paper.specs.OpcodeTable.{DCL}
 use Rattle.paper.specs.Blocks.{class_of}
-use Rattle.paper.specs.declared.Judged.TheVariants.{Good as Well}
+use Rattle.paper.specs.Judgements.{Token, good_token, bad_token, good_operands, good_instruction}
 use Rattle.paper.specs.declared.Version.{Version}
-use Rattle.paper.specs.declared.Token.{Token}
-use Rattle.paper.specs.declared.Token.TheVariants.{Good, Bad}
-use Rattle.paper.specs.declared.Operands.TheVariants.{Fit}
 use Rattle.paper.proofs.Below.{below, below_at}
 use Rattle.paper.proofs.Bools.{both_left, both_right, never}
 use Rattle.paper.proofs.Faults.{is_good, token_good}
@@ -166,9 +163,9 @@ destinations_tested : (v : Version) → below (spot_rule (free_destination_types
 unfolding holds
 destinations_tested = each (λ v. below (spot_rule (free_destination_types v)) 64) refl
 
-good_is : (t : Token) → is_good t ≡ true → t ≡ Good
-good_is Good h = refl
-good_is (Bad reason bit) h = never h
+good_is : (t : Token) → is_good t ≡ true → t ≡ good_token
+good_is good_token h = refl
+good_is (bad_token reason bit) h = never h
 
 stands : (v : Version) (place : Place) (token : ℕ) → (is_good (token_at v place token) ≡ true) × (brings_relative place token ≡ false) → Stands v place token
 stands v place token h = record { good = good_is (token_at v place token) h.0; alone = h.1 }
@@ -218,7 +215,7 @@ raw_stands : (v : Version) (token : ℕ) → Stands v raw token
 unfolding token_at
 raw_stands v token = record { good = refl; alone = refl }
 
-pub operands_none : (v : Version) (offset : ℕ) → operands v [] offset [] ≡ Fit
+pub operands_none : (v : Version) (offset : ℕ) → operands v [] offset [] ≡ good_operands
 unfolding operands
 operands_none v offset = refl
 
@@ -230,18 +227,18 @@ module _ (v : Version) where
   abbrev S : Place
   S = free_source
 
-  fit_one : (place : Place) (behind : List ℕ) → 5 ≤ length behind → Stands v place (get_or behind 0 0) → operands v (place ∷ []) 1 (take 1 behind) ≡ Fit
+  fit_one : (place : Place) (behind : List ℕ) → 5 ≤ length behind → Stands v place (get_or behind 0 0) → operands v (place ∷ []) 1 (take 1 behind) ≡ good_operands
   fit_one place [] h a = absurd (omega arith)
   fit_one place (x ∷ rest) h a = operands_step v place 1 x [] [] a ∙ operands_none v 2
 
   fit_two : (p q : Place) (behind : List ℕ) → 5 ≤ length behind → Stands v p (get_or behind 0 0) → Stands v q (get_or behind 1 0) →
-      operands v (p ∷ q ∷ []) 1 (take 2 behind) ≡ Fit
+      operands v (p ∷ q ∷ []) 1 (take 2 behind) ≡ good_operands
   fit_two p q [] h a b = absurd (omega arith)
   fit_two p q (x ∷ []) h a b = absurd (omega arith)
   fit_two p q (x ∷ y ∷ rest) h a b = operands_step v p 1 x (y ∷ []) (q ∷ []) a ∙ operands_step v q 2 y [] [] b ∙ operands_none v 3
 
   fit_three : (p q r : Place) (behind : List ℕ) → 5 ≤ length behind → Stands v p (get_or behind 0 0) → Stands v q (get_or behind 1 0) →
-      Stands v r (get_or behind 2 0) → operands v (p ∷ q ∷ r ∷ []) 1 (take 3 behind) ≡ Fit
+      Stands v r (get_or behind 2 0) → operands v (p ∷ q ∷ r ∷ []) 1 (take 3 behind) ≡ good_operands
   fit_three p q r [] h a b c = absurd (omega arith)
   fit_three p q r (x ∷ []) h a b c = absurd (omega arith)
   fit_three p q r (x ∷ y ∷ []) h a b c = absurd (omega arith)
@@ -252,7 +249,7 @@ module _ (v : Version) where
       ∙ operands_none v 4
 
   fit_four : (behind : List ℕ) → 5 ≤ length behind → Stands v D (get_or behind 0 0) → Stands v S (get_or behind 1 0) → Stands v S (get_or behind 2 0) →
-      Stands v S (get_or behind 3 0) → operands v (D ∷ S ∷ S ∷ S ∷ []) 1 (take 4 behind) ≡ Fit
+      Stands v S (get_or behind 3 0) → operands v (D ∷ S ∷ S ∷ S ∷ []) 1 (take 4 behind) ≡ good_operands
   fit_four [] h a b c d = absurd (omega arith)
   fit_four (x ∷ []) h a b c d = absurd (omega arith)
   fit_four (x ∷ y ∷ []) h a b c d = absurd (omega arith)
@@ -265,7 +262,7 @@ module _ (v : Version) where
       ∙ operands_none v 5
 
   fit_raws : (place : Place) (behind : List ℕ) → 5 ≤ length behind → Stands v place (get_or behind 0 0) →
-      operands v (place ∷ raw ∷ raw ∷ raw ∷ raw ∷ []) 1 (take 5 behind) ≡ Fit
+      operands v (place ∷ raw ∷ raw ∷ raw ∷ raw ∷ []) 1 (take 5 behind) ≡ good_operands
   fit_raws place [] h a = absurd (omega arith)
   fit_raws place (x ∷ []) h a = absurd (omega arith)
   fit_raws place (x ∷ y ∷ []) h a = absurd (omega arith)
@@ -285,7 +282,7 @@ module _ (v : Version) where
     size_is n less e = let upper = k.upper ∙ ap (λ m. 2 ^ 8 * m) e in omega arith
 
     tells : (n told : ℕ) (places : List Place) → n < 6 → decoded (places_of row) ≡ places → length places ≡ n → told ≡ yes_number n (exact_class row) →
-        operands v places 1 (take n behind) ≡ Fit → TellsRow v row behind told
+        operands v places 1 (take n behind) ≡ good_operands → TellsRow v row behind told
     tells n told places less e len is fits =
         let size = size_is n (omega arith) (ap length e ∙ len) in
         record { yes = rw size is; there = rw size (omega (arith, enough, less)); fit = rw (size, e) fits }
@@ -483,7 +480,7 @@ module _ (v : Version) (first row told : ℕ) (behind : List ℕ) (left : ℕ) (
     unfolding places_by
     places_are = rw (unpredicated, x.places) refl
 
-    judged_is : judged_in v first behind left ≡ Well (size_in row) (class_of (opcode_of first))
+    judged_is : judged_in v first behind left ≡ good_instruction (size_in row) (class_of (opcode_of first))
     judged_is =
         judged_shaped v first behind left x.there
         ∙ rw (there.0, ← there.1, claims, places_are, le-leb (size_in row) (length behind) t.there, ne_eqb (opcode_of first) DCL x.other, t.fit) refl

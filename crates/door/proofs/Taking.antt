@@ -15,10 +15,7 @@ use Rattle.paper.specs.OperandTokens.{relative_sources, relative_destinations, m
 use Rattle.paper.specs.Places.{Types, free, only, Place, free_destination, destination, source, relative}
 use Rattle.paper.specs.Instruction.{on_token, relative_token, operand, on_taken, operands}
 use Rattle.paper.specs.declared.Version.{Version}
-use Rattle.paper.specs.declared.Token.{Token}
-use Rattle.paper.specs.declared.Token.TheVariants.{Good, Bad}
-use Rattle.paper.specs.declared.Taken.{Taken}
-use Rattle.paper.specs.declared.Taken.TheVariants.{Took, Refused as refused}
+use Rattle.paper.specs.Judgements.{Token, good_token, bad_token, Taken, operand_taken, operand_refused}
 use Rattle.paper.proofs.Bools.{both_left, both_right, and_false, never, apart}
 use Rattle.paper.proofs.Faults.{is_good, token_good}
 use Rattle.paper.proofs.VersionTokens.{each}
@@ -34,8 +31,8 @@ use Rattle.door.specs.Door.{took_in, is_fit, Meant}
 
 -- what an operand takes, by whether its token is good
 took_by : (t : Token) (offset : ℕ) (next : Taken) → took_in (on_token t offset next) ≡ pick (is_good t) (took_in next) 0
-took_by Good offset next = refl
-took_by (Bad reason bit) offset next = refl
+took_by good_token offset next = refl
+took_by (bad_token reason bit) offset next = refl
 
 took_pick : (b : Bool) (next other : Taken) → took_in (pick b next other) ≡ pick b (took_in next) (took_in other)
 took_pick true next other = refl
@@ -47,7 +44,7 @@ module _ (v : Version) (offset at told : ℕ) (behind : List ℕ) (h : at < leng
   told_good = rw e (brief_good v relative (get_or behind at 0))
 
   took : took_in (relative_token v offset (drop at behind)) ≡ pick (is_good (token_at v relative (get_or behind at 0))) 2 0
-  took = rw (relative_at v offset at behind h) (took_by (token_at v relative (get_or behind at 0)) offset (Took 2))
+  took = rw (relative_at v offset at behind h) (took_by (token_at v relative (get_or behind at 0)) offset (operand_taken 2))
 
   pub relative_took : told ≡ 0 → took_in (relative_token v offset (drop at behind)) ≡ 2
   relative_took z = rw took (rw (sym told_good ∙ eq-eqb told 0 z) refl)
@@ -134,8 +131,8 @@ module _ (v : Version) (place : Place) (offset at : ℕ) (behind : List ℕ) (h 
       pick (is_good (token_at v place token)) (pick (brings_relative place token) (took_in brought) 1) 0
   operand_took =
       rw (operand_at v place offset at behind h)
-      (took_by (token_at v place token) offset (pick (brings_relative place token) brought (Took 1))
-      ∙ ap (λ n. pick (is_good (token_at v place token)) n 0) (took_pick (brings_relative place token) brought (Took 1)))
+      (took_by (token_at v place token) offset (pick (brings_relative place token) brought (operand_taken 1))
+      ∙ ap (λ n. pick (is_good (token_at v place token)) n 0) (took_pick (brings_relative place token) brought (operand_taken 1)))
 
   pub operand_bad : is_good (token_at v place token) ≡ false → took_in (operand v place offset (drop at behind)) ≡ 0
   operand_bad b = operand_took ∙ rw b refl
@@ -190,21 +187,21 @@ module _ (v : Version) (token : ℕ) where
 
 -- operands one after the other, by what the first takes
 module _ (v : Version) (place : Place) (offset : ℕ) where
-  relative_some : (t : Token) (n : ℕ) → on_token t (offset + 1) (Took 2) ≡ Took n → n ≡ 0 → ⊥
-  relative_some Good n e z = let two : 2 ≡ n = cc in omega arith
-  relative_some (Bad reason bit) n e z = apart (cc)
+  relative_some : (t : Token) (n : ℕ) → on_token t (offset + 1) (operand_taken 2) ≡ operand_taken n → n ≡ 0 → ⊥
+  relative_some good_token n e z = let two : 2 ≡ n = cc in omega arith
+  relative_some (bad_token reason bit) n e z = apart (cc)
 
-  brought_some : (brings : Bool) (rest : List ℕ) (n : ℕ) → pick brings (relative_token v (offset + 1) rest) (Took 1) ≡ Took n → n ≡ 0 → ⊥
+  brought_some : (brings : Bool) (rest : List ℕ) (n : ℕ) → pick brings (relative_token v (offset + 1) rest) (operand_taken 1) ≡ operand_taken n → n ≡ 0 → ⊥
   brought_some true [] n e z = apart (cc)
   brought_some true (t ∷ rest) n e z = relative_some (token_at v relative t) n e z
   brought_some false rest n e z = let one : 1 ≡ n = cc in omega arith
 
   token_some : (t : Token) (brings : Bool) (rest : List ℕ) (n : ℕ) →
-      on_token t offset (pick brings (relative_token v (offset + 1) rest) (Took 1)) ≡ Took n → n ≡ 0 → ⊥
-  token_some Good brings rest n e z = brought_some brings rest n e z
-  token_some (Bad reason bit) brings rest n e z = apart (cc)
+      on_token t offset (pick brings (relative_token v (offset + 1) rest) (operand_taken 1)) ≡ operand_taken n → n ≡ 0 → ⊥
+  token_some good_token brings rest n e z = brought_some brings rest n e z
+  token_some (bad_token reason bit) brings rest n e z = apart (cc)
 
-  operand_some : (tokens : List ℕ) (n : ℕ) → operand v place offset tokens ≡ Took n → n ≡ 0 → ⊥
+  operand_some : (tokens : List ℕ) (n : ℕ) → operand v place offset tokens ≡ operand_taken n → n ≡ 0 → ⊥
   unfolding operand
   operand_some [] n e z = apart (cc)
   operand_some (t ∷ rest) n e z = token_some (token_at v place t) (brings_relative place t) rest n e z
@@ -212,19 +209,19 @@ module _ (v : Version) (place : Place) (offset : ℕ) where
   module _ (rest : List Place) (tokens : List ℕ) where
     none_by : (t : Taken) → operand v place offset tokens ≡ t → took_in t ≡ 0 →
         is_fit (on_taken t (λ n. operands v rest (offset + n) (drop n tokens))) ≡ false
-    none_by (Took n) e z = absurd (operand_some tokens n e z)
-    none_by (refused r) e z = refl
+    none_by (operand_taken n) e z = absurd (operand_some tokens n e z)
+    none_by (operand_refused r) e z = refl
 
     pub fit_refused : took_in (operand v place offset tokens) ≡ 0 → is_fit (operands v (place ∷ rest) offset tokens) ≡ false
     unfolding operands
     fit_refused z = none_by (operand v place offset tokens) refl z
 
-    took_is : (t : Taken) (n : ℕ) → took_in t ≡ n → (n ≡ 0 → ⊥) → t ≡ Took n
-    took_is (Took k) n e some = ap Took e
-    took_is (refused r) n e some = absurd (some (sym e))
+    took_is : (t : Taken) (n : ℕ) → took_in t ≡ n → (n ≡ 0 → ⊥) → t ≡ operand_taken n
+    took_is (operand_taken k) n e some = ap operand_taken e
+    took_is (operand_refused r) n e some = absurd (some (sym e))
 
     module _ (n : ℕ) (e : n ≡ took_in (operand v place offset tokens)) (some : n ≡ 0 → ⊥) where
-      pub taken_is : operand v place offset tokens ≡ Took n
+      pub taken_is : operand v place offset tokens ≡ operand_taken n
       taken_is = took_is (operand v place offset tokens) n (sym e) some
 
       pub fit_taken : is_fit (operands v (place ∷ rest) offset tokens) ≡ is_fit (operands v rest (offset + n) (drop n tokens))

@@ -6,12 +6,7 @@ use Rattle.paper.specs.OperandTokens.{is_free, typed, type_of}
 use Rattle.paper.specs.Places.{Place}
 use Rattle.paper.specs.InstructionToken.{opcode_of, stated_size, unsized_bits_laid}
 use Rattle.paper.specs.declared.Version.{Version}
-use Rattle.paper.specs.declared.Taken.{Taken}
-use Rattle.paper.specs.declared.Taken.TheVariants.{Took, Refused as refused}
-use Rattle.paper.specs.declared.Operands.{Operands}
-use Rattle.paper.specs.declared.Operands.TheVariants.{Fit, Refused as unfit}
-use Rattle.paper.specs.declared.Judged.{Judged}
-use Rattle.paper.specs.declared.Judged.TheVariants.{Good, Refused}
+use Rattle.paper.specs.Judgements.{Taken, operand_taken, operand_refused, Operands, good_operands, bad_operands, Judged, good_instruction, bad_instruction}
 use Rattle.versions.specs.Sets.{holds}
 use Rattle.shapes.specs.Classes.{class_number}
 use Rattle.uniform.specs.Uniform.{uniform_of, row_of}
@@ -22,12 +17,12 @@ use Rattle.door.specs.declared.Wanted.{Wanted}
 
 -- how many tokens an operand takes; 0 if it is refused
 abbrev pub took_in : Taken → ℕ
-took_in (Took n) = n
-took_in (refused r) = 0
+took_in (operand_taken n) = n
+took_in (operand_refused r) = 0
 
 abbrev pub is_fit : Operands → Bool
-is_fit Fit = true
-is_fit (unfit r) = false
+is_fit good_operands = true
+is_fit (bad_operands r) = false
 
 -- a set is that of a place's types, and the place is free exactly if sizes are stated
 pub record Meant (v : Version) (place : Place) (set : ℕ) : Type 0 where
@@ -55,8 +50,8 @@ pub record Wants (v : Version) (first : ℕ) (r : Wanted) : Type 0 where
 
 -- what is told of a good instruction; 0 of a refused one
 abbrev pub yes_of : Judged → ℕ
-yes_of (Good size class) = yes_number size (class_number class)
-yes_of (Refused r) = 0
+yes_of (good_instruction size class) = yes_number size (class_number class)
+yes_of (bad_instruction r) = 0
 
 -- the door tells what the judge does of a good instruction of the common kind with a uniform row, and 0 of any other
 unfoldable pub passed : Version → ℕ → List ℕ → ℕ

@@ -6,8 +6,7 @@ use Rattle.paper.specs.OperandTokens.{plain_modifiers, free_destination_types, f
 use Rattle.paper.specs.Places.{Place}
 use Rattle.paper.specs.Instruction.{operands}
 use Rattle.paper.specs.declared.Version.{Version}
-use Rattle.paper.specs.declared.Token.TheVariants.{Good}
-use Rattle.paper.specs.declared.Operands.TheVariants.{Fit}
+use Rattle.paper.specs.Judgements.{good_token, good_operands}
 use Rattle.places.specs.Places.{decoded}
 use Rattle.versions.specs.Sets.{set_of, holds}
 use Rattle.exact.specs.Exact.{size_in, exact_class, places_of}
@@ -46,11 +45,11 @@ free_written v token = written_laid v token && holds (wide_of (free_destination_
 
 -- a token that is good at its place, and brings no relative one
 pub record Stands (v : Version) (place : Place) (token : ℕ) : Type 0 where
-  pub good : token_at v place token ≡ Good
+  pub good : token_at v place token ≡ good_token
   pub alone : brings_relative place token ≡ false
 
 -- what is told of the operands of a row: they are there and fit, and an instruction of its size and class is good
 pub record TellsRow (v : Version) (row : ℕ) (behind : List ℕ) (told : ℕ) : Type 0 where
   pub yes : told ≡ yes_number (size_in row) (exact_class row)
   pub there : size_in row ≤ length behind
-  pub fit : operands v (decoded (places_of row)) 1 (take (size_in row) behind) ≡ Fit
+  pub fit : operands v (decoded (places_of row)) 1 (take (size_in row) behind) ≡ good_operands

@@ -1,4 +1,5 @@
 -- An edit that is not refused before the splice is walked: what is then known of the old stream, of the places and of the splice.
+use Rattle.std.specs.Prelude.{Option, Some, None}
 use Prim.Native.Nat.{ℕ, ◌≤◌, ◌<◌}
 use mathlib.Core.Path.{◌≡◌, refl, ap, ◌∙◌}
 use mathlib.Core.Bool.{Bool, true, false, ◌&&◌}
@@ -14,8 +15,6 @@ use Rattle.paper.specs.Walk.{WalkState}
 use Rattle.paper.proofs.StreamVerdict.{verdict_walked}
 use Rattle.paper.specs.Stream.{walked, verdict, most_tokens, length_laid}
 use Rattle.paper.specs.declared.Version.{Version}
-use Rattle.paper.specs.declared.Named.{Named}
-use Rattle.paper.specs.declared.Named.TheVariants.{Known, Unknown}
 use Rattle.paper.specs.declared.Reason.{Reason}
 use Rattle.paper.specs.declared.Reason.TheVariants.{Length as LENGTH, Version as VERSION, Place as PLACE, Room as ROOM}
 use Rattle.edit.specs.declared.Edited.{Edited}
@@ -30,7 +29,7 @@ use Rattle.edit.proofs.SameBlocks.{boundary}
 -- neither LENGTH nor VERSION nor PLACE nor ROOM refuses the edit
 pub record Allowed (room : ℕ) (old : List ℕ) (i j : ℕ) (run : List ℕ) (v : Version) : Type 0 where
   pub laid : length_laid (length old) ≡ true
-  pub known : named (get_or old 0 0) ≡ Known v
+  pub known : named (get_or old 0 0) ≡ Some v
   pub place : placed v old i j ≡ true
   pub fit : fits room (new_length (length old) i j (length run)) ≡ true
 
@@ -85,15 +84,15 @@ module _ (room : ℕ) (old : List ℕ) (i j : ℕ) (run : List ℕ) where
   unfolding edited after_version_lem after_place_lem
   allowed_answer v a =
       ap (λ (b : Bool). pick b (edit_named (named (get_or old 0 0)) after_version_lem) (edit_refused LENGTH)) a.laid
-      ∙ ap (λ (n : Named). edit_named n after_version_lem) a.known
+      ∙ ap (λ (n : Option Version). edit_named n after_version_lem) a.known
       ∙ ap (λ (b : Bool). pick b (after_place_lem v) (edit_refused PLACE)) a.place
       ∙ ap (λ (b : Bool). pick b (spliced v old i j run) (edit_refused ROOM)) a.fit
 
   -- an answer that none of the four refusals gives is the splice's, and the edit is allowed
   module _ (answer : Edited) (other : (reason : Reason) → edit_refused reason ≡ answer → ⊥) where
-    past_version : (x : Named) → edit_named x after_version_lem ≡ answer → (v : Version) × (x ≡ Known v) × (after_version_lem v ≡ answer)
-    past_version (Known v) e = (v, refl, e)
-    past_version Unknown e = absurd (other VERSION e)
+    past_version : (x : Option Version) → edit_named x after_version_lem ≡ answer → (v : Version) × (x ≡ Some v) × (after_version_lem v ≡ answer)
+    past_version (Some v) e = (v, refl, e)
+    past_version None e = absurd (other VERSION e)
 
     pub answer_allowed : edited room old i j run ≡ answer → (v : Version) × Allowed room old i j run v × (spliced v old i j run ≡ answer)
     unfolding edited after_version_lem after_place_lem

@@ -1,4 +1,5 @@
 -- "Both yeses give the new length; the buffer then holds the splice, and what lies past it is as before."
+use Rattle.std.specs.Prelude.{Ok, Err}
 use Prim.Native.Nat.{ℕ, ◌≤◌}
 use mathlib.Core.Path.{◌≡◌, refl, ap, sym, ◌∙◌}
 use mathlib.Core.Bool.{Bool, true, false}
@@ -12,8 +13,7 @@ use Rattle.paper.specs.Notation.{pick}
 use Rattle.paper.specs.Stream.{verdict, most_tokens}
 use Rattle.paper.specs.declared.Version.{Version}
 use Rattle.paper.specs.declared.Refusal.{Refusal}
-use Rattle.paper.specs.declared.Verdict.{Verdict}
-use Rattle.paper.specs.declared.Verdict.TheVariants.{Accepted as yes_verdict, Refused as no_verdict}
+use Rattle.paper.specs.Judgements.{Verdict}
 use Rattle.edit.specs.declared.Edited.{Edited}
 use Rattle.edit.specs.declared.Edited.TheVariants.{Joined, Accepted, Refused}
 use Rattle.edit.specs.Edit.{splice, new_length, meets_at_end, on_verdict, edited, edited_in, held_after, buffer_after}
@@ -41,12 +41,12 @@ module _ (room : ℕ) (old : List ℕ) (i j : ℕ) (run : List ℕ) (k : ℕ) wh
       this : (b : Bool) (x : Verdict) → Joined k ≡ pick b (Joined (length (splice old i j run))) (on_verdict x (length (splice old i j run))) →
           k ≡ length (splice old i j run)
       this true x f = cc
-      this false (yes_verdict d) f = apart (cc)
-      this false (no_verdict r) f = apart (cc)
+      this false (Ok d) f = apart (cc)
+      this false (Err r) f = apart (cc)
 
   -- So does an ACCEPTED one, and a check accepts the splice.
   pub accepted_length : edited room old i j run ≡ Accepted k →
-      (k ≡ length (splice old i j run)) × (k ≤ room) × ((d : ℕ) × (verdict (splice old i j run) ≡ yes_verdict d))
+      (k ≡ length (splice old i j run)) × (k ≤ room) × ((d : ℕ) × (verdict (splice old i j run) ≡ Ok d))
   accepted_length e =
       let a = accepted_allowed room old i j run k e in
       let s = this (meets_at_end a.0 old i j run) (verdict (splice old i j run)) refl (sym e ∙ answered room old i j run a.0 a.1) in
@@ -54,10 +54,10 @@ module _ (room : ℕ) (old : List ℕ) (i j : ℕ) (run : List ℕ) (k : ℕ) wh
     where
       this : (b : Bool) (x : Verdict) → verdict (splice old i j run) ≡ x →
           Accepted k ≡ pick b (Joined (length (splice old i j run))) (on_verdict x (length (splice old i j run))) →
-          (k ≡ length (splice old i j run)) × ((d : ℕ) × (verdict (splice old i j run) ≡ yes_verdict d))
+          (k ≡ length (splice old i j run)) × ((d : ℕ) × (verdict (splice old i j run) ≡ Ok d))
       this true x g f = apart (cc)
-      this false (yes_verdict d) g f = (cc, (d, g))
-      this false (no_verdict r) g f = apart (cc)
+      this false (Ok d) g f = (cc, (d, g))
+      this false (Err r) g f = apart (cc)
 
 -- a buffer that holds a stream of k tokens, and past it what it held before
 pub record Holds (buffer after stream : List ℕ) (k : ℕ) : Type 0 where
@@ -95,14 +95,14 @@ module _ (buffer : List ℕ) (n i j : ℕ) (run : List ℕ) where
         rw (after_accepted e) (holds buffer (splice (take n buffer) i j run) k l.0 l.1)
 
     -- What a JOINED edit leaves of an accepted stream is accepted by a check.
-    pub joined_stays_accepted : (c : ℕ) → verdict (take n buffer) ≡ yes_verdict c → edited_in buffer n i j run ≡ Joined k →
-        (d : ℕ) × (verdict (take k (buffer_after buffer n i j run)) ≡ yes_verdict d)
+    pub joined_stays_accepted : (c : ℕ) → verdict (take n buffer) ≡ Ok c → edited_in buffer n i j run ≡ Joined k →
+        (d : ℕ) × (verdict (take k (buffer_after buffer n i j run)) ≡ Ok d)
     joined_stays_accepted c accepted e =
         let v = joined_accepted (length buffer) (take n buffer) i j run k (joined_held buffer n i j run k e).1 c accepted in
         (v.0, ap verdict (holds_joined e).stream_held ∙ v.1)
 
     -- What an ACCEPTED edit leaves is accepted by a check, whatever the old stream was.
-    pub accepted_is_accepted : edited_in buffer n i j run ≡ Accepted k → (d : ℕ) × (verdict (take k (buffer_after buffer n i j run)) ≡ yes_verdict d)
+    pub accepted_is_accepted : edited_in buffer n i j run ≡ Accepted k → (d : ℕ) × (verdict (take k (buffer_after buffer n i j run)) ≡ Ok d)
     accepted_is_accepted e =
         let l = accepted_length (length buffer) (take n buffer) i j run k (accepted_held buffer n i j run k e).1 in
         (l.2.0, ap verdict (holds_accepted e).stream_held ∙ l.2.1)

@@ -1,4 +1,5 @@
 -- An edit of an accepted stream is a check of the splice: the same yes or no, and of a no the same number and position.
+use Rattle.std.specs.Prelude.{Some, Ok, Err}
 use Prim.Native.Nat.{ℕ}
 use mathlib.Core.Path.{◌≡◌, refl, ap, sym, ◌∙◌}
 use mathlib.Core.Bool.{Bool, true, false}
@@ -10,11 +11,9 @@ use Rattle.paper.specs.Numbers.{refusal}
 use Rattle.paper.specs.Versions.{named}
 use Rattle.paper.specs.Stream.{walked, verdict, length_laid, on_named}
 use Rattle.paper.specs.declared.Version.{Version}
-use Rattle.paper.specs.declared.Named.TheVariants.{Known}
+use Rattle.paper.specs.Judgements.{Verdict}
 use Rattle.paper.specs.declared.Reason.TheVariants.{Length as LENGTH}
 use Rattle.paper.specs.declared.Refusal.{Refusal}
-use Rattle.paper.specs.declared.Verdict.{Verdict}
-use Rattle.paper.specs.declared.Verdict.TheVariants.{Accepted as yes_verdict, Refused as no_verdict}
 use Rattle.edit.specs.declared.Edited.{Edited}
 use Rattle.edit.specs.declared.Edited.TheVariants.{Joined, Accepted, Refused}
 use Rattle.edit.specs.Edit.{splice, new_length, placed, fits, meets_at_end, on_verdict, edited}
@@ -24,8 +23,8 @@ use Rattle.edit.proofs.Allowed.{Allowed, places, allowed_answer, new_length_lem,
 use Rattle.edit.proofs.JoinedIsTheOldVerdict.{joined_accepted}
 
 same_refusal : (x : Verdict) (n : ℕ) → edit_refusal (on_verdict x n) ≡ check_refusal x
-same_refusal (yes_verdict c) n = refl
-same_refusal (no_verdict r) n = refl
+same_refusal (Ok c) n = refl
+same_refusal (Err r) n = refl
 
 -- An edit that is allowed, of any stream, accepted or not, is JOINED if the states meet at the run's end, and else has the verdict of the splice and the splice's length.
 pub answered : (room : ℕ) (old : List ℕ) (i j : ℕ) (run : List ℕ) (v : Version) → Allowed room old i j run v →
@@ -48,17 +47,17 @@ unless_joined room old i j run v a never = this (meets_at_end v old i j run) (an
     this false e = ap edit_refusal e ∙ same_refusal (verdict (splice old i j run)) (length (splice old i j run))
 
 -- an accepted stream has a lawful length
-accepted_laid : (b : Bool) (x : Verdict) (c : ℕ) → pick b x (no_verdict (refusal LENGTH 0)) ≡ yes_verdict c → b ≡ true
+accepted_laid : (b : Bool) (x : Verdict) (c : ℕ) → pick b x (Err (refusal LENGTH 0)) ≡ Ok c → b ≡ true
 accepted_laid true x c e = refl
 accepted_laid false x c e = apart (cc)
 
-laid_accepted : (old : List ℕ) (c : ℕ) → verdict old ≡ yes_verdict c → length_laid (length old) ≡ true
+laid_accepted : (old : List ℕ) (c : ℕ) → verdict old ≡ Ok c → length_laid (length old) ≡ true
 unfolding verdict
 laid_accepted old c e = accepted_laid (length_laid (length old)) (on_named (named (get_or old 0 0)) (λ v. walked v old)) c e
 
 -- Take an accepted stream, two of its boundaries in order, and a run that fits.
 module _ (room : ℕ) (old : List ℕ) (i j : ℕ) (run : List ℕ) (v : Version) (c : ℕ)
-    (accepted : verdict old ≡ yes_verdict c) (version : named (get_or old 0 0) ≡ Known v)
+    (accepted : verdict old ≡ Ok c) (version : named (get_or old 0 0) ≡ Some v)
     (place : placed v old i j ≡ true) (fit : fits room (new_length (length old) i j (length run)) ≡ true) where
   allowed : Allowed room old i j run v
   allowed = record { laid = laid_accepted old c accepted; known = version; place = place; fit = fit }
@@ -73,7 +72,7 @@ module _ (room : ℕ) (old : List ℕ) (i j : ℕ) (run : List ℕ) (v : Version
       this (Refused r) e = unless_joined room old i j run v allowed (λ m f. apart (cc))
 
   -- In particular: where the check of the splice refuses, the edit gives that refusal,
-  pub check_refuses : (r : Refusal) → verdict (splice old i j run) ≡ no_verdict r → edited room old i j run ≡ Refused r
+  pub check_refuses : (r : Refusal) → verdict (splice old i j run) ≡ Err r → edited room old i j run ≡ Refused r
   check_refuses r e = this (edited room old i j run) (edit_is_a_check ∙ ap check_refusal e)
     where
       this : (x : Edited) → edit_refusal x ≡ some r → x ≡ Refused r
@@ -82,9 +81,9 @@ module _ (room : ℕ) (old : List ℕ) (i j : ℕ) (run : List ℕ) (v : Version
       this (Refused s) f = cc
 
   -- and where the edit refuses, the check of the splice gives that refusal.
-  pub edit_refuses : (r : Refusal) → edited room old i j run ≡ Refused r → verdict (splice old i j run) ≡ no_verdict r
+  pub edit_refuses : (r : Refusal) → edited room old i j run ≡ Refused r → verdict (splice old i j run) ≡ Err r
   edit_refuses r e = this (verdict (splice old i j run)) (sym edit_is_a_check ∙ ap edit_refusal e)
     where
-      this : (x : Verdict) → check_refusal x ≡ some r → x ≡ no_verdict r
-      this (yes_verdict d) f = apart (cc)
-      this (no_verdict s) f = cc
+      this : (x : Verdict) → check_refusal x ≡ some r → x ≡ Err r
+      this (Ok d) f = apart (cc)
+      this (Err s) f = cc

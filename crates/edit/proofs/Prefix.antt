@@ -10,7 +10,7 @@ use Rattle.paper.specs.Instruction.{judged}
 use Rattle.paper.specs.Walk.{WalkState}
 use Rattle.paper.specs.declared.Version.{Version}
 use Rattle.paper.specs.declared.Class.{Class}
-use Rattle.paper.specs.declared.Judged.TheVariants.{Good}
+use Rattle.paper.specs.Judgements.{good_instruction}
 use Rattle.paper.proofs.OwnTokens.{good_alone}
 use Rattle.edit.specs.Boundaries.{stands_with, standing_at}
 use Rattle.edit.specs.Edit.{splice}
@@ -35,7 +35,7 @@ same_length s t q p e h l = omega (arith, length-take q s, length-take q t, ap l
 
 -- a good instruction is good wherever its own tokens stand
 pub same_good : (v : Version) (size : ℕ) (class : Class) (a b : List ℕ) → take (suc size) a ≡ take (suc size) b →
-    judged v a ≡ Good size class → judged v b ≡ Good size class
+    judged v a ≡ good_instruction size class → judged v b ≡ good_instruction size class
 same_good v size class a b e j =
     ap (judged v) (sym (take-append-drop (suc size) b) ∙ ap (λ (l : List ℕ). l ++ drop (suc size) b) (sym e))
     ∙ good_alone size class v a (drop (suc size) b) j

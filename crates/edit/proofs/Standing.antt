@@ -15,8 +15,7 @@ use Rattle.paper.specs.Walk.{WalkState, begin, Next, go, bad, finish, step}
 use Rattle.paper.specs.Stream.{cut_one, cut_from}
 use Rattle.paper.specs.declared.Version.{Version}
 use Rattle.paper.specs.declared.Class.{Class}
-use Rattle.paper.specs.declared.Judged.{Judged}
-use Rattle.paper.specs.declared.Judged.TheVariants.{Good, Refused}
+use Rattle.paper.specs.Judgements.{Judged, good_instruction, bad_instruction}
 use Rattle.blocks.specs.Reach.{Reaches, here, past, start_of}
 use Rattle.blocks.proofs.Cutting.{cut_none, cut_at, start_at}
 use Rattle.edit.specs.Boundaries.{nowhere, stands_with, onward, standing, standing_at}
@@ -26,7 +25,7 @@ use Rattle.edit.specs.Boundaries.{nowhere, stands_with, onward, standing, standi
 pub data Comes (v : Version) (s : List ℕ) : ℕ → WalkState → ℕ → WalkState → Type 0 where
   stays : {p : ℕ} {w : WalkState} → Comes v s p w p w
   passes : {size : ℕ} {class : Class} {p q : ℕ} {w u z : WalkState} →
-      judged v (drop p s) ≡ Good size class → step w class ≡ go u → p < length s → Comes v s (p + suc size) u q z → Comes v s p w q z
+      judged v (drop p s) ≡ good_instruction size class → step w class ≡ go u → p < length s → Comes v s (p + suc size) u q z → Comes v s p w q z
 
 -- a walk comes only to what lies ahead
 pub ahead : {v : Version} {s : List ℕ} {p q : ℕ} {w u : WalkState} → Comes v s p w q u → p ≤ q
@@ -41,8 +40,8 @@ comes_reaches {v} {s} (passes {p = p} j e h c) = rw (cut_at v s p h, j) (past e 
 -- and what a walk comes to is found standing
 standing_here : (p : ℕ) (w : WalkState) (rest : ℕ → Cut) (judgement : Judged) → standing p (cut_one judgement p rest) w ≡ stands_with w
 unfolding standing
-standing_here p w rest (Good size class) = rw (eq-eqb p p refl)
-standing_here p w rest (Refused r) = rw (eq-eqb p p refl)
+standing_here p w rest (good_instruction size class) = rw (eq-eqb p p refl)
+standing_here p w rest (bad_instruction r) = rw (eq-eqb p p refl)
 
 standing_on : (class : Class) (p q : ℕ) (w u : WalkState) (rest : Cut) → p < q → step w class ≡ go u →
     standing q (then class p rest) w ≡ standing q rest u
@@ -63,7 +62,7 @@ module _ (v : Version) (s : List ℕ) (q : ℕ) (u : WalkState) (p : ℕ) (w : W
   found_here : p ≡ q → stands_with w ≡ stands_with u → Found v s p w q u
   found_here at e = let same : w ≡ u = cc in rw (← at, ← same) (stays, inside)
 
-  module _ (size : ℕ) (class : Class) (judgement : judged v (drop p s) ≡ Good size class)
+  module _ (size : ℕ) (class : Class) (judgement : judged v (drop p s) ≡ good_instruction size class)
       (later : (z : WalkState) → standing q (cut_from v s (p + suc size)) z ≡ stands_with u → Found v s (p + suc size) z q u) where
     found_on : (x : Next) → step w class ≡ x → onward x (λ next. standing q (cut_from v s (p + suc size)) next) ≡ stands_with u → Found v s p w q u
     found_on (go z) e h = let l = later z h in (passes judgement e inside l.0, l.1)
@@ -83,8 +82,8 @@ module _ (v : Version) (s : List ℕ) (q : ℕ) (u : WalkState) (p : ℕ) (w : W
       ((n : ℕ) (z : WalkState) → standing q (cut_from v s (p + suc n)) z ≡ stands_with u → Found v s (p + suc n) z q u) →
       standing q (cut_one judgement p (λ n. cut_from v s (p + n))) w ≡ stands_with u → Found v s p w q u
   unfolding standing
-  found_one (Good size class) e later h = found_good size class e (later size) (eqb p q) refl h
-  found_one (Refused r) e later h = found_refused (eqb p q) refl h
+  found_one (good_instruction size class) e later h = found_good size class e (later size) (eqb p q) refl h
+  found_one (bad_instruction r) e later h = found_refused (eqb p q) refl h
 
 nothing_found : (v : Version) (s : List ℕ) (p q : ℕ) (w u : WalkState) → length s ≤ p → standing q (cut_from v s p) w ≡ stands_with u → Found v s p w q u
 unfolding standing
@@ -120,10 +119,10 @@ module _ (v : Version) (s : List ℕ) (q : ℕ) where
   comes_past {class} {at} {a} {w} {u} {z} p e go_on later = this (leb (length s) p) refl
     where
       one : (judgement : Judged) → judged v (drop p s) ≡ judgement → p < length s → then class at a ≡ cut_one judgement p (λ n. cut_from v s (p + n)) → Comes v s p w q z
-      one (Good size other) j inside f =
+      one (good_instruction size other) j inside f =
           let same : other ≡ class = cc in
-          passes (j ∙ ap (Good size) same) go_on inside (later (p + suc size) (cc))
-      one (Refused r) j inside f = apart (cc)
+          passes (j ∙ ap (good_instruction size) same) go_on inside (later (p + suc size) (cc))
+      one (bad_instruction r) j inside f = apart (cc)
 
       this : (b : Bool) → leb (length s) p ≡ b → Comes v s p w q z
       this true l = let none : then class at a ≡ out p = e ∙ cut_none v s p (leb-true (length s) p l) in apart (cc)

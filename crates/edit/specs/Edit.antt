@@ -1,15 +1,12 @@
 -- Document 01, "The edit", of lists first, then of a buffer.
-use Rattle.std.specs.Prelude.{ℕ, ◌+◌, ◌-◌, Bool, ◌&&◌, List, ◌++◌, leb, length, take, drop, get_or}
+use Rattle.std.specs.Prelude.{ℕ, ◌+◌, ◌-◌, Bool, ◌&&◌, List, ◌++◌, leb, length, take, drop, get_or, Option, Some, None, Ok, Err}
 use Rattle.paper.specs.Notation.{pick}
 use Rattle.paper.specs.Numbers.{number_of, refusal}
 use Rattle.paper.specs.Versions.{named}
 use Rattle.paper.specs.Stream.{walked, most_tokens, length_laid}
 use Rattle.paper.specs.declared.Version.{Version}
-use Rattle.paper.specs.declared.Named.{Named}
-use Rattle.paper.specs.declared.Named.TheVariants.{Known, Unknown}
+use Rattle.paper.specs.Judgements.{Verdict}
 use Rattle.paper.specs.declared.Reason.TheVariants.{Length as LENGTH, Version as VERSION, Place as PLACE, Room as ROOM}
-use Rattle.paper.specs.declared.Verdict.{Verdict}
-use Rattle.paper.specs.declared.Verdict.TheVariants.{Accepted as yes_verdict, Refused as no_verdict}
 use Rattle.edit.specs.declared.Edited.{Edited}
 use Rattle.edit.specs.declared.Edited.TheVariants.{Joined, Accepted, Refused}
 use Rattle.edit.specs.Boundaries.{standing_at, is_boundary, meets}
@@ -36,8 +33,8 @@ meets_at_end v old i j run = meets (standing_at v old j) (standing_at v (splice 
 
 -- "Otherwise all is read: ACCEPTED, or a refusal at its position in the spliced stream."
 abbrev pub on_verdict : Verdict → ℕ → Edited
-on_verdict (yes_verdict count) tokens = Accepted tokens
-on_verdict (no_verdict r) tokens = Refused r
+on_verdict (Ok count) tokens = Accepted tokens
+on_verdict (Err r) tokens = Refused r
 
 abbrev pub spliced : Version → List ℕ → ℕ → ℕ → List ℕ → Edited
 spliced v old i j run =
@@ -47,9 +44,9 @@ spliced v old i j run =
 abbrev pub edit_refused : Rattle.paper.specs.declared.Reason.Reason → Edited
 edit_refused reason = Refused (refusal reason 0)
 
-abbrev pub edit_named : Named → (Version → Edited) → Edited
-edit_named (Known v) next = next v
-edit_named Unknown next = edit_refused VERSION
+abbrev pub edit_named : Option Version → (Version → Edited) → Edited
+edit_named (Some v) next = next v
+edit_named None next = edit_refused VERSION
 
 -- "Order: LENGTH, VERSION, PLACE .., ROOM ..": the edit of a stream in a room of so many tokens
 unfoldable pub edited : ℕ → List ℕ → ℕ → ℕ → List ℕ → Edited

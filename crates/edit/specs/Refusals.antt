@@ -1,8 +1,8 @@
 -- Answers by their refusals: a yes has none.
+use Rattle.std.specs.Prelude.{Ok, Err}
 use Rattle.std.proofs.Math.Option.{Option, none, some}
 use Rattle.paper.specs.declared.Refusal.{Refusal}
-use Rattle.paper.specs.declared.Verdict.{Verdict}
-use Rattle.paper.specs.declared.Verdict.TheVariants.{Accepted as yes_verdict, Refused as no_verdict}
+use Rattle.paper.specs.Judgements.{Verdict}
 use Rattle.edit.specs.declared.Edited.{Edited}
 use Rattle.edit.specs.declared.Edited.TheVariants.{Joined, Accepted, Refused}
 
@@ -14,5 +14,5 @@ edit_refusal (Refused r) = some r
 
 -- of a check
 abbrev pub check_refusal : Verdict → Option Refusal
-check_refusal (yes_verdict count) = none
-check_refusal (no_verdict r) = some r
+check_refusal (Ok count) = none
+check_refusal (Err r) = some r

@@ -10,7 +10,7 @@ use Rattle.paper.specs.Instruction.{judged}
 use Rattle.paper.specs.Walk.{WalkState, go, step}
 use Rattle.paper.specs.declared.Version.{Version}
 use Rattle.paper.specs.declared.Class.{Class}
-use Rattle.paper.specs.declared.Judged.TheVariants.{Good}
+use Rattle.paper.specs.Judgements.{good_instruction}
 use Rattle.edit.specs.Boundaries.{Standing, nowhere, stands_with, standing_at}
 use Rattle.edit.proofs.Standing.{Comes as Leads, stays, passes, ahead, standing_comes, reached_standing}
 use Rattle.paper.proofs.Bools.{apart}
@@ -41,7 +41,7 @@ record First (v : Version) (s : List ℕ) (p t : ℕ) (w : WalkState) : Type 0 w
   pub size : ℕ
   pub class : Class
   pub next : WalkState
-  pub good : judged v (drop p s) ≡ Good size class
+  pub good : judged v (drop p s) ≡ good_instruction size class
   pub goes : step w class ≡ go next
   pub near : p + suc size ≤ t
 

@@ -17,7 +17,7 @@ use Rattle.paper.specs.Instruction.{Head, broken, end, comment, operation, token
 use Rattle.paper.specs.Places.{Entry, absent, listed, entry_of}
 use Rattle.paper.specs.declared.Version.{Version}
 use Rattle.paper.specs.declared.Reason.TheVariants.{Bits as BITS, RunOut as RUN_OUT}
-use Rattle.paper.specs.declared.Judged.TheVariants.{Refused}
+use Rattle.paper.specs.Judgements.{bad_instruction}
 use Rattle.paper.proofs.Bools.{apart}
 use Rattle.paper.proofs.FirstToken.{stray_comment, stray_end, no_row_lem, stray_bits, Says, is_broken, is_comment_lem, is_end_lem, is_listed, says, fifteen}
 use Rattle.shapes.specs.Classes.{class_number}
@@ -61,7 +61,7 @@ module _ (v : Version) (first : ℕ) (behind : List ℕ) (left : ℕ) where
 
     shaped_by : (h : Head) → Says v first h → judged_with v h first behind left ≡
         pick (bits_by (shape_of v (opcode_of first)) first) (by_head v (listed_head (shape_of v (opcode_of first)) first) (opcode_of first) behind)
-        (Refused (refusal BITS 0))
+        (bad_instruction (refusal BITS 0))
     shaped_by h (is_broken (stray_comment o l)) = beyond_table comment_opcode no_comment o
     shaped_by h (is_broken (stray_end o n)) = beyond_table end_opcode no_end o
     shaped_by h (is_broken (no_row_lem o e)) = listed_alone e
@@ -72,7 +72,7 @@ module _ (v : Version) (first : ℕ) (behind : List ℕ) (left : ℕ) where
 
     pub judged_shaped : judged_in v first behind left ≡
         pick (bits_by (shape_of v (opcode_of first)) first) (by_head v (listed_head (shape_of v (opcode_of first)) first) (opcode_of first) behind)
-        (Refused (refusal BITS 0))
+        (bad_instruction (refusal BITS 0))
     unfolding judged_in
     judged_shaped = shaped_by (token_head v first) (says v first)
 
@@ -84,7 +84,7 @@ module _ (v : Version) (first : ℕ) (behind : List ℕ) (left : ℕ) where
     class_in_lem = class_by_lem (entry_of v (opcode_of first)) refl
 
 -- where no token is, and where all the tokens behind the first are shown
-pub judged_none : (v : Version) (tokens : List ℕ) → length tokens ≡ 0 → judged v tokens ≡ Refused (refusal RUN_OUT 0)
+pub judged_none : (v : Version) (tokens : List ℕ) → length tokens ≡ 0 → judged v tokens ≡ bad_instruction (refusal RUN_OUT 0)
 unfolding judged
 judged_none v [] h = refl
 judged_none v (first ∷ rest) h = absurd (omega arith)

@@ -7,21 +7,20 @@ use lib.Dec.{leb}
 use borrow.Author.Tests.{le-leb, lt-leb, leb-true, leb-false}
 use Rattle.paper.specs.Instruction.{on_operands}
 use Rattle.paper.specs.declared.Class.{Class}
-use Rattle.paper.specs.declared.Operands.{Operands}
-use Rattle.paper.specs.declared.Operands.TheVariants.{Fit, Refused as unfit}
+use Rattle.paper.specs.Judgements.{Operands, good_operands, bad_operands}
 use Rattle.shapes.specs.Classes.{class_number}
 use Rattle.told.specs.Numbered.{yes_number, judged_number, operands_number}
 
 -- operands of which 0 is told take an instruction's tokens
 pub operands_number_lem : (o : Operands) (told size : ℕ) (class : Class) → told ≡ operands_number o → told ≡ 0 →
     judged_number (on_operands o size class) ≡ yes_number size (class_number class)
-operands_number_lem Fit told size class e z = refl
-operands_number_lem (unfit r) told size class e z = absurd (omega arith)
+operands_number_lem good_operands told size class e z = refl
+operands_number_lem (bad_operands r) told size class e z = absurd (omega arith)
 
 pub operands_refused_number : (o : Operands) (told size : ℕ) (class : Class) → told ≡ operands_number o → (told ≡ 0 → ⊥) →
     judged_number (on_operands o size class) ≡ told
-operands_refused_number Fit told size class e some = absurd (some e)
-operands_refused_number (unfit r) told size class e some = sym e
+operands_refused_number good_operands told size class e some = absurd (some e)
+operands_refused_number (bad_operands r) told size class e some = sym e
 
 -- so many tokens are there
 pub there_less : (length shown beyond : ℕ) → shown < length → leb (length - shown) beyond ≡ leb length (shown + beyond)

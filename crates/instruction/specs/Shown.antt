@@ -10,8 +10,7 @@ use Rattle.paper.specs.declared.Reason.TheVariants.{Opcode as OPCODE, Bits as BI
 use Rattle.paper.specs.declared.Single.TheVariants.{Comment}
 use Rattle.paper.specs.declared.Closer.TheVariants.{End}
 use Rattle.paper.specs.declared.Class.TheVariants.{One, Closes}
-use Rattle.paper.specs.declared.Judged.{Judged}
-use Rattle.paper.specs.declared.Judged.TheVariants.{Good, Refused}
+use Rattle.paper.specs.Judgements.{Judged, good_instruction, bad_instruction}
 use Rattle.places.specs.Places.{decoded}
 use Rattle.instruction_token.specs.ByShape.{claim_by, places_by}
 
@@ -32,7 +31,7 @@ room_for (operation places size) shown left = shown
 
 abbrev pub judged_with : Version → Head → ℕ → List ℕ → ℕ → Judged
 judged_with v h first behind left =
-    pick (leb (claim h) (room_for h (length behind) left)) (on_claimed v h (opcode_of first) (take (claim h) behind)) (Refused (refusal RUN_OUT 0))
+    pick (leb (claim h) (room_for h (length behind) left)) (on_claimed v h (opcode_of first) (take (claim h) behind)) (bad_instruction (refusal RUN_OUT 0))
 
 unfoldable pub judged_in : Version → ℕ → List ℕ → ℕ → Judged
 judged_in v first behind left = judged_with v (token_head v first) first behind left
@@ -42,7 +41,7 @@ unfoldable pub unlisted_in : ℕ → ℕ → Judged
 unlisted_in first left =
     pick (eqb (opcode_of first) comment_opcode)
     (pick (comment_laid first)
-    (pick (leb (comment_length first) left) (Good (comment_length first) (One Comment)) (Refused (refusal RUN_OUT 0)))
-    (Refused (refusal BITS 0)))
-    (pick (eqb (opcode_of first) end_opcode) (pick (eqb first end_token) (Good 0 (Closes End)) (Refused (refusal BITS 0)))
-    (Refused (refusal OPCODE 0)))
+    (pick (leb (comment_length first) left) (good_instruction (comment_length first) (One Comment)) (bad_instruction (refusal RUN_OUT 0)))
+    (bad_instruction (refusal BITS 0)))
+    (pick (eqb (opcode_of first) end_opcode) (pick (eqb first end_token) (good_instruction 0 (Closes End)) (bad_instruction (refusal BITS 0)))
+    (bad_instruction (refusal OPCODE 0)))

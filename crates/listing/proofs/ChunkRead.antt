@@ -11,7 +11,7 @@ use Rattle.paper.specs.Instruction.{judged}
 use Rattle.paper.specs.Stream.{most_tokens}
 use Rattle.paper.specs.declared.Version.{Version}
 use Rattle.paper.specs.declared.Class.{Class}
-use Rattle.paper.specs.declared.Judged.TheVariants.{Good}
+use Rattle.paper.specs.Judgements.{good_instruction}
 use Rattle.paper.proofs.VersionTokens.{named_back}
 use Rattle.cutting.specs.Cuttings.{Alone}
 use Rattle.paper.proofs.OwnTokens.{good_alone}
@@ -24,7 +24,7 @@ module _ (v : Version) (first : ℕ) (rest other : List ℕ) {class : Class} (al
   own : take (suc (length rest)) (first ∷ rest) ≡ first ∷ rest
   own = take-length (first ∷ rest)
 
-  pub judged_here : judged v (drop at s) ≡ Good (length rest) class
+  pub judged_here : judged v (drop at s) ≡ good_instruction (length rest) class
   judged_here = rw here (ap (λ (c : List ℕ). judged v (c ++ other)) (sym own) ∙ good_alone (length rest) class v (first ∷ rest) other alone)
 
   pub inside : at < length s

@@ -12,7 +12,7 @@ use Rattle.paper.specs.declared.Class.{Class}
 use Rattle.paper.specs.declared.Closer.TheVariants.{End}
 use Rattle.paper.specs.declared.Class.TheVariants.{One, Closes}
 use Rattle.paper.specs.declared.Single.TheVariants.{Comment}
-use Rattle.paper.specs.declared.Judged.TheVariants.{Good as Lawful}
+use Rattle.paper.specs.Judgements.{good_instruction}
 use Rattle.paper.specs.Walk.{counts}
 use Rattle.blocks.proofs.Classes.{class_counted}
 use Rattle.cutting.specs.Cuttings.{Chunks, last, next, instructions}
@@ -28,7 +28,7 @@ listed_counts n opcode class e = sym (class_counted opcode n) ∙ ap (λ (x : Cl
 
 -- a chunk's record counts as its class does
 module _ (v : Version) (first : ℕ) (rest : List ℕ) (n size : ℕ) (class : Class) where
-  counts_on : (h : Head) → Says v first h → (behind : List ℕ) → on_claimed v h (opcode_of first) behind ≡ Lawful size class →
+  counts_on : (h : Head) → Says v first h → (behind : List ℕ) → on_claimed v h (opcode_of first) behind ≡ good_instruction size class →
       pick (is_passed (record_on h first rest)) n (suc n) ≡ counts class n
   counts_on h (is_broken b) behind j = apart (cc)
   counts_on h (is_comment_lem o l) behind j = let c : One Comment ≡ class = cc in ap (λ (x : Class). counts x n) c
@@ -38,7 +38,7 @@ module _ (v : Version) (first : ℕ) (rest : List ℕ) (n size : ℕ) (class : C
       (listed_counts n (opcode_of first) class
       (operands_good size class v (opcode_of first) (with_predicate (is_predicated first) places) (claimed v first places) behind j).2)
 
-  chunk_counts : judged v (first ∷ rest) ≡ Lawful size class → pick (is_passed (record_of v (first ∷ rest))) n (suc n) ≡ counts class n
+  chunk_counts : judged v (first ∷ rest) ≡ good_instruction size class → pick (is_passed (record_of v (first ∷ rest))) n (suc n) ≡ counts class n
   unfolding record_of
   chunk_counts j = counts_on (token_head v first) (says v first) (take size rest) (good_claim size class v first rest j).good
 

@@ -1,4 +1,5 @@
 -- Where the search ends: it runs out of tokens, at an instruction that is refused, or at a good one, of which it tells.
+use Rattle.std.specs.Prelude.{Option, Some, None}
 use mathlib.Core.Path.{◌≡◌, refl}
 use mathlib.Core.Bool.{Bool, true, false}
 use mathlib.Core.List.{List}
@@ -15,11 +16,8 @@ use Rattle.paper.specs.Stream.{cut_one, cut_from, most_tokens}
 use Rattle.paper.specs.declared.Version.{Version}
 use Rattle.paper.specs.declared.Class.{Class}
 use Rattle.paper.specs.declared.Refusal.{Refusal}
-use Rattle.paper.specs.declared.Named.{Named}
-use Rattle.paper.specs.declared.Named.TheVariants.{Known, Unknown}
+use Rattle.paper.specs.Judgements.{Judged, good_instruction, bad_instruction}
 use Rattle.paper.specs.declared.Reason.TheVariants.{Length as LENGTH, Version as VERSION, RunOut as RUN_OUT}
-use Rattle.paper.specs.declared.Judged.{Judged}
-use Rattle.paper.specs.declared.Judged.TheVariants.{Good, Refused as Unlawful}
 use Rattle.blocks.proofs.Cutting.{cut_none, cut_at, start_at}
 use Rattle.notes.specs.declared.Before.{Before}
 use Rattle.notes.specs.declared.Before.TheVariants.{Nothing, Comments, Stop, Further, SecondStop}
@@ -42,12 +40,12 @@ module _
     (from : ℕ)
     (P : Noted → Type 0)
     (runs_out : P (Refused (refusal RUN_OUT (length s))))
-    (is_refused_lem : (p : ℕ) (r : Refusal) → p < length s → judged v (drop p s) ≡ Unlawful r → P (Refused (moved_by (λ q. p + q) r)))
-    (is_found : (p size notes comments : ℕ) (class : Class) → from ≤ p → comments ≤ p → p < length s → judged v (drop p s) ≡ Good size class →
+    (is_refused_lem : (p : ℕ) (r : Refusal) → p < length s → judged v (drop p s) ≡ bad_instruction r → P (Refused (moved_by (λ q. p + q) r)))
+    (is_found : (p size notes comments : ℕ) (class : Class) → from ≤ p → comments ≤ p → p < length s → judged v (drop p s) ≡ good_instruction size class →
     P (Found (note notes p comments (p + suc size))))
   where
     module _ (at : ℕ) (ahead : from ≤ at) (some : at < length s) (before : Before) (comments : ℕ) (behind : comments ≤ at) where
-      good : (size : ℕ) (class : Class) → judged v (drop at s) ≡ Good size class →
+      good : (size : ℕ) (class : Class) → judged v (drop at s) ≡ good_instruction size class →
           (test : Bool) → P (noted_in v s (cut_from v s (at + suc size)) (behind_of (get_or s at 0) before) (begin before comments at)) →
           P (pick test (Found (note (notes_of v (get_or s at 0) (get_or s (at + 1) 0) before) at (begin before comments at) (at + suc size)))
           (noted_in v s (cut_from v s (at + suc size)) (behind_of (get_or s at 0) before) (begin before comments at)))
@@ -59,9 +57,9 @@ module _
           ((size : ℕ) → P (noted_in v s (cut_from v s (at + suc size)) (behind_of (get_or s at 0) before) (begin before comments at))) →
           P (noted_in v s (cut_one judgement at (λ n. cut_from v s (at + n))) before comments)
       unfolding noted_in
-      one (Good size class) j later =
+      one (good_instruction size class) j later =
           rw (start_at v s (at + suc size)) (good size class j (ends (notes_of v (get_or s at 0) (get_or s (at + 1) 0) before) (get_or s at 0)) (later size))
-      one (Unlawful r) j later = is_refused_lem at r some j
+      one (bad_instruction r) j later = is_refused_lem at r some j
 
     place : (at : ℕ) → from ≤ at → (before : Before) (comments : ℕ) → comments ≤ at → (none : Bool) → leb (length s) at ≡ none →
         (at < length s → (size : ℕ) → P (noted_in v s (cut_from v s (at + suc size)) (behind_of (get_or s at 0) before) (begin before comments at))) →
@@ -87,11 +85,11 @@ module _
 -- and before the search LENGTH and VERSION: what holds of these and of each version's search holds of every answer
 module _ (tokens : List ℕ) (from : ℕ) (P : Noted → Type 0) (too_long : P (Refused (refusal LENGTH 0))) (unknown : P (Refused (refusal VERSION 0)))
     (searched : (v : Version) → P (noted_from v tokens from)) where
-  by_version : (name : Named) → P (on_version name tokens from)
-  by_version (Known v) = searched v
-  by_version Unknown = unknown
+  by_version : (name : Option Version) → P (on_version name tokens from)
+  by_version (Some v) = searched v
+  by_version None = unknown
 
-  by_length : (name : Named) (few : Bool) → P (pick few (on_version name tokens from) (Refused (refusal LENGTH 0)))
+  by_length : (name : Option Version) (few : Bool) → P (pick few (on_version name tokens from) (Refused (refusal LENGTH 0)))
   by_length name true = by_version name
   by_length name false = too_long
 

@@ -8,7 +8,7 @@ use Rattle.paper.specs.Instruction.{judged}
 use Rattle.paper.specs.declared.Version.{Version}
 use Rattle.paper.specs.declared.Class.{Class}
 use Rattle.paper.specs.declared.Refusal.{Refusal}
-use Rattle.paper.specs.declared.Judged.TheVariants.{Good}
+use Rattle.paper.specs.Judgements.{good_instruction}
 use Rattle.paper.proofs.OneToOne.{no_reason_zero}
 use Rattle.paper.proofs.OwnTokens.{good_within}
 use Rattle.notes.specs.declared.Note.{Note}
@@ -38,7 +38,7 @@ module _ (tokens : List ℕ) (from : ℕ) where
   refused r n e = absurd (never_found r n e)
 
   pub lying : (v : Version) (p size notes comments : ℕ) (class : Class) → from ≤ p → comments ≤ p → p < length tokens →
-      judged v (drop p tokens) ≡ Good size class → Told (Found (note notes p comments (p + suc size)))
+      judged v (drop p tokens) ≡ good_instruction size class → Told (Found (note notes p comments (p + suc size)))
   lying v p size notes comments class ahead behind some j n e =
       let at : p ≡ n.at = cc in
       let begin : comments ≡ n.comments = cc in

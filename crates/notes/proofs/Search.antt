@@ -11,7 +11,7 @@ use Rattle.paper.specs.Instruction.{judged}
 use Rattle.paper.specs.Stream.{cut_from}
 use Rattle.paper.specs.declared.Version.{Version}
 use Rattle.paper.specs.declared.Reason.TheVariants.{RunOut as RUN_OUT}
-use Rattle.paper.specs.declared.Judged.TheVariants.{Good, Refused as Unlawful}
+use Rattle.paper.specs.Judgements.{good_instruction, bad_instruction}
 use Rattle.paper.proofs.OneInstruction.{judged_near, judged_bit}
 use Rattle.paper.proofs.OwnTokens.{good_within}
 use Rattle.told.specs.Numbered.{is_refusal, size_in, kind_in, number_in, bit_in, position_in, class_by, judged_from}
@@ -34,11 +34,11 @@ module _ (v : Version) (s : List ℕ) (before : Before) (comments at : ℕ) wher
     judges : judged v (drop at s) ≡ judged_from told
     judges = sym (ap judged_from (is ∙ told_whole v s at) ∙ judged_back (length (drop at s)) (judged v (drop at s)) (judged_bit v (drop at s)))
 
-    refuses : is_refusal told ≡ true → judged v (drop at s) ≡ Unlawful (refusal_at_bit (reason_by (number_in told)) (position_in told) (bit_in told))
+    refuses : is_refusal told ≡ true → judged v (drop at s) ≡ bad_instruction (refusal_at_bit (reason_by (number_in told)) (position_in told) (bit_in told))
     unfolding judged_from
     refuses f = rw f at judges
 
-    takes : is_refusal told ≡ false → judged v (drop at s) ≡ Good (size_in told) (class_by (kind_in told))
+    takes : is_refusal told ≡ false → judged v (drop at s) ≡ good_instruction (size_in told) (class_by (kind_in told))
     unfolding judged_from
     takes f = rw f at judges
 

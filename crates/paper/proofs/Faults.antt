@@ -18,8 +18,7 @@ use Rattle.paper.specs.Dcl.{sampler_form, plain_form, usage_form, sampler_types,
 use Rattle.paper.specs.declared.Version.{Version}
 use Rattle.paper.specs.declared.Reason.{Reason}
 use Rattle.paper.specs.declared.Reason.TheVariants.{Register as REGISTER, Reserved as RESERVED, Modifier as MODIFIER, Relative as RELATIVE}
-use Rattle.paper.specs.declared.Token.{Token}
-use Rattle.paper.specs.declared.Token.TheVariants.{Good, Bad}
+use Rattle.paper.specs.Judgements.{Token, good_token, bad_token}
 use Rattle.paper.proofs.Bools.{never, both_left, both_right, and_true, and_false, or_false}
 use Rattle.paper.proofs.VersionTokens.{each}
 
@@ -32,8 +31,8 @@ module _ (P : Reason → ℕ → Type 0) where
     pub register : P REGISTER 0
 
   abbrev pub OfToken : Token → Type 0
-  OfToken Good = Unit {0}
-  OfToken (Bad reason bit) = P reason bit
+  OfToken good_token = Unit {0}
+  OfToken (bad_token reason bit) = P reason bit
 
   module _ (faults : TokenFaults) where
     either : (b : Bool) (x y : Token) → (b ≡ true → OfToken x) → (b ≡ false → OfToken y) → OfToken (pick b x y)
@@ -195,12 +194,12 @@ module _ (zeros fields : List ℕ) (token : ℕ) where
       clear (f ∷ fs) n e i = never e
 
 abbrev pub is_good : Token → Bool
-is_good Good = true
-is_good (Bad reason bit) = false
+is_good good_token = true
+is_good (bad_token reason bit) = false
 
 -- a token has no fault exactly if bit 31 is one, no other bit offends, and bit 13 and the modifier are laid
 good_by : (one some r m : Bool) (k : ℕ) →
-    is_good (pick (not one) (Bad RESERVED 31) (pick some (Bad RESERVED k) (pick r (pick m Good (Bad MODIFIER 24)) (Bad RELATIVE 13)))) ≡ one && (not some && (r && m))
+    is_good (pick (not one) (bad_token RESERVED 31) (pick some (bad_token RESERVED k) (pick r (pick m good_token (bad_token MODIFIER 24)) (bad_token RELATIVE 13)))) ≡ one && (not some && (r && m))
 good_by false some r m k = refl
 good_by true true r m k = refl
 good_by true false true true k = refl
@@ -429,6 +428,6 @@ module _ (v : Version) where
   pub usage_good : (type token : ℕ) → is_good (usage_at v type token) ≡ usage_laid v type token
   usage_good type token = by (usage_laid v type token) (usage_faultless v token type)
     where
-      by : (is_laid : Bool) → is_good (usage_fault v type token) ≡ is_laid → is_good (pick is_laid Good (usage_fault v type token)) ≡ is_laid
+      by : (is_laid : Bool) → is_good (usage_fault v type token) ≡ is_laid → is_good (pick is_laid good_token (usage_fault v type token)) ≡ is_laid
       by true e = refl
       by false e = e

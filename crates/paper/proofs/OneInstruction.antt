@@ -21,15 +21,8 @@ use Rattle.paper.specs.declared.Version.{Version}
 use Rattle.paper.specs.declared.Reason.{Reason}
 use Rattle.paper.specs.declared.Reason.TheVariants.{Opcode as OPCODE, Bits as BITS, RunOut as RUN_OUT, Size as SIZE}
 use Rattle.paper.specs.declared.Refusal.{Refusal}
-use Rattle.paper.specs.declared.Token.{Token}
-use Rattle.paper.specs.declared.Token.TheVariants.{Good as good, Bad as bad}
-use Rattle.paper.specs.declared.Taken.{Taken}
-use Rattle.paper.specs.declared.Taken.TheVariants.{Took, Refused as untaken}
-use Rattle.paper.specs.declared.Operands.{Operands}
-use Rattle.paper.specs.declared.Operands.TheVariants.{Fit, Refused as unfit}
+use Rattle.paper.specs.Judgements.{Token, good_token, bad_token, Taken, operand_taken, operand_refused, Operands, good_operands, bad_operands, Judged, good_instruction, bad_instruction}
 use Rattle.paper.specs.declared.Class.{Class}
-use Rattle.paper.specs.declared.Judged.{Judged}
-use Rattle.paper.specs.declared.Judged.TheVariants.{Good, Refused}
 use Rattle.paper.proofs.Faults.{TokenFaults, OfToken, of_token, of_declared, of_usage}
 use Rattle.paper.proofs.FirstToken.{Broken, stray_comment, stray_end, no_row_lem, stray_bits, Says, is_broken, is_comment_lem, is_end_lem, is_listed, says}
 
@@ -45,16 +38,16 @@ pub record Faults (P : Refusal → Type 0) (most : ℕ) : Type 0 where
 -- a good answer takes tokens that are there, and P holds of a refusal
 module _ (P : Refusal → Type 0) where
   abbrev pub Takes : ℕ → Taken → Type 0
-  Takes left (Took n) = n ≤ left
-  Takes left (untaken r) = P r
+  Takes left (operand_taken n) = n ≤ left
+  Takes left (operand_refused r) = P r
 
   abbrev Fits : Operands → Type 0
-  Fits Fit = Unit {0}
-  Fits (unfit r) = P r
+  Fits good_operands = Unit {0}
+  Fits (bad_operands r) = P r
 
   abbrev pub Within : ℕ → Judged → Type 0
-  Within n (Good size class) = size < n
-  Within n (Refused r) = P r
+  Within n (good_instruction size class) = size < n
+  Within n (bad_instruction r) = P r
 
   module _ (most : ℕ) (faults : Faults P most) where
     -- one token, at an offset
@@ -65,15 +58,15 @@ module _ (P : Refusal → Type 0) where
     at_token v place token offset h = of_token _ (faults.token offset h) v place token
 
     on_token_lem : (t : Token) (offset left : ℕ) (next : Taken) → At offset t → Takes left next → Takes left (on_token t offset next)
-    on_token_lem good offset left next h j = j
-    on_token_lem (bad reason bit) offset left next h j = h
+    on_token_lem good_token offset left next h j = j
+    on_token_lem (bad_token reason bit) offset left next h j = h
 
     -- one operand
     relative_takes : (v : Version) (offset : ℕ) (tokens : List ℕ) → offset + length tokens ≤ suc most →
         Takes (suc (length tokens)) (relative_token v offset tokens)
     relative_takes v offset [] h = faults.size
     relative_takes v offset (token ∷ rest) h =
-        on_token_lem (token_at v relative token) offset _ (Took 2) (at_token v relative token offset (omega arith)) (omega arith)
+        on_token_lem (token_at v relative token) offset _ (operand_taken 2) (at_token v relative token offset (omega arith)) (omega arith)
 
     either : (test : Bool) (left : ℕ) (x y : Taken) → Takes left x → Takes left y → Takes left (pick test x y)
     either true left x y h j = h
@@ -85,7 +78,7 @@ module _ (P : Refusal → Type 0) where
     operand_takes v place offset [] h = faults.size
     operand_takes v place offset (token ∷ rest) h =
         on_token_lem (token_at v place token) offset _ _ (at_token v place token offset (omega arith))
-        (either (brings_relative place token) (suc (length rest)) (relative_token v (offset + 1) rest) (Took 1)
+        (either (brings_relative place token) (suc (length rest)) (relative_token v (offset + 1) rest) (operand_taken 1)
         (relative_takes v (offset + 1) rest (omega arith)) (omega arith))
 
     -- the operands
@@ -95,8 +88,8 @@ module _ (P : Refusal → Type 0) where
 
     on_taken_lem : (left : ℕ) (taken : Taken) (next : ℕ → Operands) → Takes left taken → ((n : ℕ) → n ≤ left → Fits (next n)) →
         Fits (on_taken taken next)
-    on_taken_lem left (Took n) next h j = j n h
-    on_taken_lem left (untaken r) next h j = h
+    on_taken_lem left (operand_taken n) next h j = j n h
+    on_taken_lem left (operand_refused r) next h j = h
 
     operands_fit : (v : Version) (places : List Place) (offset : ℕ) (tokens : List ℕ) → offset + length tokens ≤ suc most →
         Fits (operands v places offset tokens)
@@ -107,9 +100,9 @@ module _ (P : Refusal → Type 0) where
         (λ n le. operands_fit v rest (offset + n) (drop n tokens) (omega (arith, length-drop n tokens)))
 
     declared_fit : (t u : Token) (rest : List ℕ) → At 2 t → At 1 u → Fits (on_declared t 2 (on_declared u 1 (left_over rest)))
-    declared_fit good good rest h j = left_over_lem rest
-    declared_fit good (bad reason bit) rest h j = j
-    declared_fit (bad reason bit) u rest h j = h
+    declared_fit good_token good_token rest h j = left_over_lem rest
+    declared_fit good_token (bad_token reason bit) rest h j = j
+    declared_fit (bad_token reason bit) u rest h j = h
 
     declaration_fit : (v : Version) (tokens : List ℕ) → length tokens ≤ most → Fits (declaration v tokens)
     unfolding declaration
@@ -126,8 +119,8 @@ module _ (P : Refusal → Type 0) where
 
     -- the instruction
     on_operands_lem : (answer : Operands) (size : ℕ) (class : Class) → size ≤ most → Fits answer → Within (suc most) (on_operands answer size class)
-    on_operands_lem Fit size class h j = omega arith
-    on_operands_lem (unfit r) size class h j = j
+    on_operands_lem good_operands size class h j = omega arith
+    on_operands_lem (bad_operands r) size class h j = j
 
     on_broken : {v : Version} {token : ℕ} {reason : Reason} → Broken v token reason → P (refusal reason 0)
     on_broken (stray_comment o l) = faults.bits
@@ -153,7 +146,7 @@ module _ (P : Refusal → Type 0) where
     where
       by : (there : Bool) → leb (claim (token_head v token)) (length rest) ≡ there →
           Within (suc (length rest))
-          (pick there (on_claimed v (token_head v token) (opcode_of token) (take (claim (token_head v token)) rest)) (Refused (refusal RUN_OUT 0)))
+          (pick there (on_claimed v (token_head v token) (opcode_of token) (take (claim (token_head v token)) rest)) (bad_instruction (refusal RUN_OUT 0)))
       by true e =
           let all : suc (length rest) - 1 ≡ length rest = omega arith in
           on_claimed_lem (length rest) (rw all at faults) v token (token_head v token) (says v token) (take (claim (token_head v token)) rest)
@@ -193,7 +186,7 @@ judged_bit v tokens =
 
 -- a refusal is for one of eight reasons, and its detail is what goes with the reason
 pub judged_reason : (Q : Reason → ℕ → Type 0) → Q OPCODE 0 → Q BITS 0 → Q RUN_OUT 0 → Q SIZE 0 → TokenFaults Q →
-    (v : Version) (tokens : List ℕ) (r : Refusal) → judged v tokens ≡ Refused r → Q r.reason r.detail
+    (v : Version) (tokens : List ℕ) (r : Refusal) → judged v tokens ≡ bad_instruction r → Q r.reason r.detail
 judged_reason Q opcode bits run_out size faults v tokens r e =
     rw e at
     (judged_within (λ x. Q x.reason x.detail) v tokens

@@ -1,4 +1,5 @@
 -- What is told of an answer leaves one answer: each definition of "The numbers given back" is one-to-one.
+use Rattle.std.specs.Prelude.{Option, Some, None, Ok, Err}
 use mathlib.Core.Path.{◌≡◌, refl, ap, sym, ◌∙◌}
 use Prim.Native.Nat.{ℕ, suc, ◌<◌}
 use native.Mathlib.Omega.{arith}
@@ -6,15 +7,11 @@ use lib.Dec.{lit<}
 use Rattle.paper.specs.Versions.{named}
 use Rattle.paper.specs.Numbers.{number_of, reason_by, refusal_at_bit, fault_of, ToldVerdict, told, ToldNamed, told_named, ToldInstruction, told_instruction}
 use Rattle.paper.proofs.VersionTokens.{named_back}
-use Rattle.paper.specs.declared.Named.{Named}
-use Rattle.paper.specs.declared.Named.TheVariants.{Known, Unknown}
+use Rattle.paper.specs.Judgements.{Judged, good_instruction, bad_instruction, Verdict}
+use Rattle.paper.specs.declared.Version.{Version}
 use Rattle.paper.specs.declared.Reason.{Reason}
 use Rattle.paper.specs.declared.Reason.TheVariants.{Length as LENGTH, Version as VERSION, Opcode as OPCODE, Bits as BITS, RunOut as RUN_OUT, Size as SIZE, Register as REGISTER, Block as BLOCK, Depth as DEPTH, Tail as TAIL, Place as PLACE, Room as ROOM, Record as RECORD, Reserved as RESERVED, Modifier as MODIFIER, Relative as RELATIVE}
 use Rattle.paper.specs.declared.Refusal.{Refusal}
-use Rattle.paper.specs.declared.Judged.{Judged}
-use Rattle.paper.specs.declared.Judged.TheVariants.{Good as GoodInstruction, Refused as RefusedInstruction}
-use Rattle.paper.specs.declared.Verdict.{Verdict}
-use Rattle.paper.specs.declared.Verdict.TheVariants.{Accepted, Refused}
 
 -- a reason by its number
 pub reason_back : (r : Reason) → reason_by (number_of r) ≡ r
@@ -73,28 +70,28 @@ same_refusal a b number position detail =
 pub no_fault_zero : (r : Reason) (bit : ℕ) → 0 ≡ fault_of r bit → ⊥
 no_fault_zero r bit e = omega (arith, (bounds r).0)
 
-pub same_named : (a b : Named) → told_named a ≡ told_named b → a ≡ b
+pub same_named : (a b : Option Version) → told_named a ≡ told_named b → a ≡ b
 unfolding told_named
-same_named (Known v) (Known w) e = sym (named_back v) ∙ ap named (ap (λ (t : ToldNamed). t.token) e) ∙ named_back w
-same_named (Known v) Unknown e = absurd (no_reason_zero VERSION (ap (λ (t : ToldNamed). t.number) e))
-same_named Unknown (Known w) e = absurd (no_reason_zero VERSION (sym (ap (λ (t : ToldNamed). t.number) e)))
-same_named Unknown Unknown e = refl
+same_named (Some v) (Some w) e = sym (named_back v) ∙ ap named (ap (λ (t : ToldNamed). t.token) e) ∙ named_back w
+same_named (Some v) None e = absurd (no_reason_zero VERSION (ap (λ (t : ToldNamed). t.number) e))
+same_named None (Some w) e = absurd (no_reason_zero VERSION (sym (ap (λ (t : ToldNamed). t.number) e)))
+same_named None None e = refl
 
 pub same_instruction : (a b : Judged) → told_instruction a ≡ told_instruction b → a ≡ b
 unfolding told_instruction
-same_instruction (GoodInstruction n c) (GoodInstruction m d) e =
+same_instruction (good_instruction n c) (good_instruction m d) e =
     let takes : suc n ≡ suc m = ap (λ (t : ToldInstruction). t.takes) e in
     let size : n ≡ m = omega arith in
     let class : c ≡ d = ap (λ (t : ToldInstruction). t.class) e in
     cc
-same_instruction (GoodInstruction n c) (RefusedInstruction b) e = absurd (no_reason_zero b.reason (ap (λ (t : ToldInstruction). t.number) e))
-same_instruction (RefusedInstruction a) (GoodInstruction m d) e = absurd (no_reason_zero a.reason (sym (ap (λ (t : ToldInstruction). t.number) e)))
-same_instruction (RefusedInstruction a) (RefusedInstruction b) e =
-    ap RefusedInstruction (same_refusal a b (ap (λ (t : ToldInstruction). t.number) e) (ap (λ (t : ToldInstruction). t.position) e) (ap (λ (t : ToldInstruction). t.detail) e))
+same_instruction (good_instruction n c) (bad_instruction b) e = absurd (no_reason_zero b.reason (ap (λ (t : ToldInstruction). t.number) e))
+same_instruction (bad_instruction a) (good_instruction m d) e = absurd (no_reason_zero a.reason (sym (ap (λ (t : ToldInstruction). t.number) e)))
+same_instruction (bad_instruction a) (bad_instruction b) e =
+    ap bad_instruction (same_refusal a b (ap (λ (t : ToldInstruction). t.number) e) (ap (λ (t : ToldInstruction). t.position) e) (ap (λ (t : ToldInstruction). t.detail) e))
 
 pub same_verdict : (a b : Verdict) → told a ≡ told b → a ≡ b
-same_verdict (Accepted n) (Accepted m) e = ap Accepted (ap (λ (t : ToldVerdict). t.instructions) e)
-same_verdict (Accepted n) (Refused b) e = absurd (no_reason_zero b.reason (ap (λ (t : ToldVerdict). t.number) e))
-same_verdict (Refused a) (Accepted m) e = absurd (no_reason_zero a.reason (sym (ap (λ (t : ToldVerdict). t.number) e)))
-same_verdict (Refused a) (Refused b) e =
-    ap Refused (same_refusal a b (ap (λ (t : ToldVerdict). t.number) e) (ap (λ (t : ToldVerdict). t.position) e) (ap (λ (t : ToldVerdict). t.detail) e))
+same_verdict (Ok n) (Ok m) e = ap Ok (ap (λ (t : ToldVerdict). t.instructions) e)
+same_verdict (Ok n) (Err b) e = absurd (no_reason_zero b.reason (ap (λ (t : ToldVerdict). t.number) e))
+same_verdict (Err a) (Ok m) e = absurd (no_reason_zero a.reason (sym (ap (λ (t : ToldVerdict). t.number) e)))
+same_verdict (Err a) (Err b) e =
+    ap Err (same_refusal a b (ap (λ (t : ToldVerdict). t.number) e) (ap (λ (t : ToldVerdict). t.position) e) (ap (λ (t : ToldVerdict). t.detail) e))

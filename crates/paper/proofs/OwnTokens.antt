@@ -16,11 +16,8 @@ use Rattle.paper.specs.Places.{Place}
 use Rattle.paper.specs.Blocks.{class_of}
 use Rattle.paper.specs.declared.Version.{Version}
 use Rattle.paper.specs.declared.Reason.TheVariants.{RunOut as RUN_OUT}
-use Rattle.paper.specs.declared.Operands.{Operands}
-use Rattle.paper.specs.declared.Operands.TheVariants.{Fit, Refused as Unfit}
+use Rattle.paper.specs.Judgements.{Operands, good_operands, bad_operands, Judged, good_instruction, bad_instruction}
 use Rattle.paper.specs.declared.Class.{Class}
-use Rattle.paper.specs.declared.Judged.{Judged}
-use Rattle.paper.specs.declared.Judged.TheVariants.{Good, Refused}
 use Rattle.paper.proofs.Bools.{apart}
 
 -- what is claimed and then something else, of which the claimed tokens are the first
@@ -39,25 +36,25 @@ own_tokens v first rest other there = same_within (claim (token_head v first)) r
 
 -- a good instruction is as long as its first token claims
 module _ (size : ℕ) (class : Class) where
-  within_good : (n : ℕ) (rest : List ℕ) (next : Judged) → within n rest next ≡ Good size class → (n ≤ length rest) × (next ≡ Good size class)
+  within_good : (n : ℕ) (rest : List ℕ) (next : Judged) → within n rest next ≡ good_instruction size class → (n ≤ length rest) × (next ≡ good_instruction size class)
   within_good n rest next e = there (leb n (length rest)) refl e
     where
-      there : (test : Bool) → leb n (length rest) ≡ test → pick test next (Refused (refusal RUN_OUT 0)) ≡ Good size class →
-          (n ≤ length rest) × (next ≡ Good size class)
+      there : (test : Bool) → leb n (length rest) ≡ test → pick test next (bad_instruction (refusal RUN_OUT 0)) ≡ good_instruction size class →
+          (n ≤ length rest) × (next ≡ good_instruction size class)
       there true t e = (leb-true n (length rest) t, e)
       there false t e = apart (cc)
 
-  fit : (o : Operands) (n : ℕ) (c : Class) → on_operands o n c ≡ Good size class → (o ≡ Fit) × (n ≡ size) × (c ≡ class)
-  fit Fit n c e = (refl, cc, cc)
-  fit (Unfit r) n c e = apart (cc)
+  fit : (o : Operands) (n : ℕ) (c : Class) → on_operands o n c ≡ good_instruction size class → (o ≡ good_operands) × (n ≡ size) × (c ≡ class)
+  fit good_operands n c e = (refl, cc, cc)
+  fit (bad_operands r) n c e = apart (cc)
 
   -- an instruction of the table: its operands fit, and its size and its class are those told
   pub operands_good : (v : Version) (opcode : ℕ) (places : List Place) (n : ℕ) (behind : List ℕ) →
-      on_claimed v (operation places n) opcode behind ≡ Good size class →
-      (operands_of v opcode places behind ≡ Fit) × (n ≡ size) × (class_of opcode ≡ class)
+      on_claimed v (operation places n) opcode behind ≡ good_instruction size class →
+      (operands_of v opcode places behind ≡ good_operands) × (n ≡ size) × (class_of opcode ≡ class)
   operands_good v opcode places n behind e = fit (operands_of v opcode places behind) n (class_of opcode) e
 
-  claimed_good : (v : Version) (h : Head) (opcode : ℕ) (behind : List ℕ) → on_claimed v h opcode behind ≡ Good size class → claim h ≡ size
+  claimed_good : (v : Version) (h : Head) (opcode : ℕ) (behind : List ℕ) → on_claimed v h opcode behind ≡ good_instruction size class → claim h ≡ size
   claimed_good v (broken reason) opcode behind e = apart (cc)
   claimed_good v end opcode behind e = cc
   claimed_good v (comment n) opcode behind e = cc
@@ -67,9 +64,9 @@ module _ (size : ℕ) (class : Class) where
   pub record GoodClaim (v : Version) (first : ℕ) (rest : List ℕ) : Type 0 where
     pub claims : claim (token_head v first) ≡ size
     pub there : size ≤ length rest
-    pub good : on_claimed v (token_head v first) (opcode_of first) (take size rest) ≡ Good size class
+    pub good : on_claimed v (token_head v first) (opcode_of first) (take size rest) ≡ good_instruction size class
 
-  pub good_claim : (v : Version) (first : ℕ) (rest : List ℕ) → judged v (first ∷ rest) ≡ Good size class → GoodClaim v first rest
+  pub good_claim : (v : Version) (first : ℕ) (rest : List ℕ) → judged v (first ∷ rest) ≡ good_instruction size class → GoodClaim v first rest
   unfolding judged
   good_claim v first rest e =
       let h = token_head v first in
@@ -78,22 +75,22 @@ module _ (size : ℕ) (class : Class) where
       record { claims = same; there = rw same at g.0; good = rw same at g.1 }
 
   -- a good instruction takes at least one token and only tokens that are there: it takes suc size
-  pub good_within : (v : Version) (tokens : List ℕ) → judged v tokens ≡ Good size class → suc size ≤ length tokens
+  pub good_within : (v : Version) (tokens : List ℕ) → judged v tokens ≡ good_instruction size class → suc size ≤ length tokens
   unfolding judged
   good_within v [] e = apart (cc)
   good_within v (first ∷ rest) e = let there = (good_claim v first rest e).there in omega arith
 
   -- in a stream it ends at the token count or before
-  pub good_inside : (v : Version) (s : List ℕ) (p : ℕ) → judged v (drop p s) ≡ Good size class → p + suc size ≤ length s
+  pub good_inside : (v : Version) (s : List ℕ) (p : ℕ) → judged v (drop p s) ≡ good_instruction size class → p + suc size ≤ length s
   good_inside v s p j = omega (arith, good_within v (drop p s) j, length-drop p s)
 
   -- the answer of a good instruction depends on its own tokens alone
-  pub good_alone : (v : Version) (tokens other : List ℕ) → judged v tokens ≡ Good size class → judged v (take (suc size) tokens ++ other) ≡ Good size class
+  pub good_alone : (v : Version) (tokens other : List ℕ) → judged v tokens ≡ good_instruction size class → judged v (take (suc size) tokens ++ other) ≡ good_instruction size class
   unfolding judged
   good_alone v [] other e = apart (cc)
   good_alone v (first ∷ rest) other e =
       let g = good_claim v first rest e in
       ap (λ (n : ℕ). judged v (first ∷ (take n rest ++ other))) (sym g.claims) ∙ own_tokens v first rest other (rw g.claims g.there) ∙ e
 
-  pub good_own : (v : Version) (tokens : List ℕ) → judged v tokens ≡ Good size class → judged v (take (suc size) tokens) ≡ Good size class
+  pub good_own : (v : Version) (tokens : List ℕ) → judged v tokens ≡ good_instruction size class → judged v (take (suc size) tokens) ≡ good_instruction size class
   good_own v tokens e = rw (append-nil (take (suc size) tokens)) at (good_alone v tokens [] e)

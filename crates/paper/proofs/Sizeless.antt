@@ -21,14 +21,8 @@ use Rattle.paper.specs.Instruction.{Head, token_head, on_token, operand, on_take
 use Rattle.paper.specs.declared.Version.{Version}
 use Rattle.paper.specs.declared.Reason.{Reason}
 use Rattle.paper.specs.declared.Reason.TheVariants.{RunOut as RUN_OUT, Size as SIZE}
-use Rattle.paper.specs.declared.Token.{Token}
-use Rattle.paper.specs.declared.Token.TheVariants.{Good as good, Bad as bad}
-use Rattle.paper.specs.declared.Taken.TheVariants.{Took}
-use Rattle.paper.specs.declared.Operands.{Operands}
-use Rattle.paper.specs.declared.Operands.TheVariants.{Fit, Refused as unfit}
+use Rattle.paper.specs.Judgements.{Token, good_token, bad_token, operand_taken, Operands, good_operands, bad_operands, Judged, good_instruction, bad_instruction}
 use Rattle.paper.specs.declared.Class.{Class}
-use Rattle.paper.specs.declared.Judged.{Judged}
-use Rattle.paper.specs.declared.Judged.TheVariants.{Good, Refused}
 use Rattle.paper.proofs.Bools.{apart, both_left, both_right}
 use Rattle.paper.proofs.Faults.{TokenFaults, OfToken, of_token, of_declared, of_usage}
 use Rattle.paper.proofs.FirstRows.{none_free, first_unfree}
@@ -43,21 +37,21 @@ abbrev TokenNot : Token → Type 0
 TokenNot = OfToken ReasonNot
 
 abbrev OperandsNot : Operands → Type 0
-OperandsNot Fit = Unit {0}
-OperandsNot (unfit r) = r.reason ≡ SIZE → ⊥
+OperandsNot good_operands = Unit {0}
+OperandsNot (bad_operands r) = r.reason ≡ SIZE → ⊥
 
 abbrev pub NotSize : Judged → Type 0
-NotSize (Good size class) = Unit {0}
-NotSize (Refused r) = r.reason ≡ SIZE → ⊥
+NotSize (good_instruction size class) = Unit {0}
+NotSize (bad_instruction r) = r.reason ≡ SIZE → ⊥
 
 token_not : TokenFaults ReasonNot
 token_not = record { reserved = λ bit h e. apart (cc); modifier = λ e. apart (cc); relative = λ e. apart (cc); register = λ e. apart (cc) }
 
 -- places that are not free take a token each
 module _ (v : Version) where
-  one_not : (t : Token) (offset : ℕ) (next : ℕ → Operands) → TokenNot t → OperandsNot (next 1) → OperandsNot (on_taken (on_token t offset (Took 1)) next)
-  one_not good offset next h j = j
-  one_not (bad reason bit) offset next h j = h
+  one_not : (t : Token) (offset : ℕ) (next : ℕ → Operands) → TokenNot t → OperandsNot (next 1) → OperandsNot (on_taken (on_token t offset (operand_taken 1)) next)
+  one_not good_token offset next h j = j
+  one_not (bad_token reason bit) offset next h j = h
 
   operands_not : (places : List Place) (offset : ℕ) (tokens : List ℕ) → none_free places ≡ true → length tokens ≡ length places →
       OperandsNot (operands v places offset tokens)
@@ -72,9 +66,9 @@ module _ (v : Version) where
       (operands_not places (offset + 1) rest (both_right (not (is_free place)) _ f) (omega arith)))
 
   declared_not : (t u : Token) → TokenNot t → TokenNot u → OperandsNot (on_declared t 2 (on_declared u 1 (left_over [])))
-  declared_not good good h j = tt
-  declared_not good (bad reason bit) h j = j
-  declared_not (bad reason bit) u h j = h
+  declared_not good_token good_token h j = tt
+  declared_not good_token (bad_token reason bit) h j = j
+  declared_not (bad_token reason bit) u h j = h
 
   declaration_not : (tokens : List ℕ) → length tokens ≡ 2 → OperandsNot (declaration v tokens)
   unfolding declaration
@@ -107,8 +101,8 @@ module _ (v : Version) (token : ℕ) (sizeless : has_sizes v ≡ false) where
       by false d = operands_not v places 1 behind (first_unfree v (opcode_of token) places sizeless e) h
 
   on_operands_lem : (answer : Operands) (size : ℕ) (class : Class) → OperandsNot answer → NotSize (on_operands answer size class)
-  on_operands_lem Fit size class h = tt
-  on_operands_lem (unfit r) size class h = h
+  on_operands_lem good_operands size class h = tt
+  on_operands_lem (bad_operands r) size class h = h
 
   claimed_not : (h : Head) → Says v token h → (behind : List ℕ) → length behind ≡ claim h → NotSize (on_claimed v h (opcode_of token) behind)
   claimed_not h (is_broken (stray_comment o l)) behind n = λ e. apart (cc)
@@ -128,7 +122,7 @@ no_size v [] s = λ e. apart (cc)
 no_size v (token ∷ rest) s = by (leb (claim (token_head v token)) (length rest)) refl
   where
     by : (there : Bool) → leb (claim (token_head v token)) (length rest) ≡ there →
-        NotSize (pick there (on_claimed v (token_head v token) (opcode_of token) (take (claim (token_head v token)) rest)) (Refused (refusal RUN_OUT 0)))
+        NotSize (pick there (on_claimed v (token_head v token) (opcode_of token) (take (claim (token_head v token)) rest)) (bad_instruction (refusal RUN_OUT 0)))
     by true t =
         claimed_not v token s (token_head v token) (says v token) (take (claim (token_head v token)) rest)
         (length-take-le (claim (token_head v token)) rest (leb-true _ _ t))
@@ -137,6 +131,6 @@ no_size v (token ∷ rest) s = by (leb (claim (token_head v token)) (length rest
 -- RUN-OUT where an instruction's bits are laid out and its operands pass the end
 pub passes_end : (v : Version) (token : ℕ) (rest : List ℕ) (places : List Place) → has_sizes v ≡ false → Other token →
     entry_of v (opcode_of token) ≡ listed places → bits_laid v token places ≡ true → length rest < length places →
-    judged v (token ∷ rest) ≡ Refused (refusal RUN_OUT 0)
+    judged v (token ∷ rest) ≡ bad_instruction (refusal RUN_OUT 0)
 unfolding judged token_head
 passes_end v token rest places s o e l few = rw (o.no_comment, o.no_end, e, l, s, lt-leb (length places) (length rest) few)

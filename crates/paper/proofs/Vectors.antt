@@ -1,4 +1,5 @@
 -- One instruction of each kind from documents 01 and 02, the readings of them, and an independent assembler's streams, good and refused: the definitions, computed.
+use Rattle.std.specs.Prelude.{Ok, Err}
 use mathlib.Core.Path.{◌≡◌, refl}
 use mathlib.Core.Bool.{Bool, true, ◌&&◌}
 use mathlib.Core.List.{List, [], ◌∷◌}
@@ -23,8 +24,7 @@ use Rattle.paper.specs.declared.Closer.TheVariants.{EndIf, End}
 use Rattle.paper.specs.declared.Class.{Class}
 use Rattle.paper.specs.declared.Class.TheVariants.{One, Opens, Closes}
 use Rattle.paper.specs.declared.Reason.TheVariants.{Block as BLOCK}
-use Rattle.paper.specs.declared.Verdict.{Verdict}
-use Rattle.paper.specs.declared.Verdict.TheVariants.{Accepted, Refused}
+use Rattle.paper.specs.Judgements.{Verdict}
 
 record Vector : Type 0 where
   version : Version
@@ -380,20 +380,20 @@ abbrev nests : List Class → Verdict
 nests cs = walk 0 (cut_of cs 1) begin
 
 -- one PHASE is accepted and counted
-phase_once : nests (One Phase ∷ One Plain ∷ Closes End ∷ []) ≡ Accepted 2
+phase_once : nests (One Phase ∷ One Plain ∷ Closes End ∷ []) ≡ Ok 2
 unfolding walk cut_of
 phase_once = refl
 
 -- a second one is BLOCK at its place, whatever stands between
-phase_twice : nests (One Phase ∷ One Phase ∷ Closes End ∷ []) ≡ Refused (refusal BLOCK 2)
+phase_twice : nests (One Phase ∷ One Phase ∷ Closes End ∷ []) ≡ Err (refusal BLOCK 2)
 unfolding walk cut_of
 phase_twice = refl
 
-phase_later : nests (One Phase ∷ One Plain ∷ Opens If ∷ Closes EndIf ∷ One Phase ∷ Closes End ∷ []) ≡ Refused (refusal BLOCK 5)
+phase_later : nests (One Phase ∷ One Plain ∷ Opens If ∷ Closes EndIf ∷ One Phase ∷ Closes End ∷ []) ≡ Err (refusal BLOCK 5)
 unfolding walk cut_of
 phase_later = refl
 
 -- and so is one in a block
-phase_in_block : nests (Opens If ∷ One Phase ∷ Closes EndIf ∷ Closes End ∷ []) ≡ Refused (refusal BLOCK 2)
+phase_in_block : nests (Opens If ∷ One Phase ∷ Closes EndIf ∷ Closes End ∷ []) ≡ Err (refusal BLOCK 2)
 unfolding walk cut_of
 phase_in_block = refl

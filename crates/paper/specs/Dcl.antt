@@ -8,10 +8,7 @@ use Rattle.paper.specs.Faults.{span, unless, offends, fault_by}
 use Rattle.paper.specs.OperandTokens.{number_field, type_of, relative_laid, laid, written_zeros, layout_then_type, refused_operands, left_over}
 use Rattle.paper.specs.declared.Version.{Version}
 use Rattle.paper.specs.declared.Reason.TheVariants.{Size as SIZE}
-use Rattle.paper.specs.declared.Token.{Token}
-use Rattle.paper.specs.declared.Token.TheVariants.{Good, Bad}
-use Rattle.paper.specs.declared.Operands.{Operands}
-use Rattle.paper.specs.declared.Operands.TheVariants.{Refused}
+use Rattle.paper.specs.Judgements.{Token, good_token, bad_token, Operands, bad_operands}
 
 -- "Sampler: 26:0 zero, 30:27 is 2, 3 or 4."
 abbrev pub sampler_form : ℕ → Bool
@@ -100,12 +97,12 @@ unfoldable pub usage_fault : Version → ℕ → ℕ → Token
 usage_fault v type token = fault_by token (offends (form_zeros v type) (form_fields v type token) token) true true
 
 abbrev pub usage_at : Version → ℕ → ℕ → Token
-usage_at v type token = pick (usage_laid v type token) Good (usage_fault v type token)
+usage_at v type token = pick (usage_laid v type token) good_token (usage_fault v type token)
 
 -- an operand of DCL, at its position
 abbrev pub on_declared : Token → ℕ → Operands → Operands
-on_declared Good position next = next
-on_declared (Bad reason bit) position next = Refused (refusal_at_bit reason position bit)
+on_declared good_token position next = next
+on_declared (bad_token reason bit) position next = bad_operands (refusal_at_bit reason position bit)
 
 -- "The destination is judged first, then U": the tokens behind the instruction token are U, the destination, and no more
 unfoldable pub declaration : Version → List ℕ → Operands

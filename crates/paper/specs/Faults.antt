@@ -2,8 +2,7 @@
 use Rattle.std.specs.Prelude.{ℕ, zero, suc, ◌-◌, Bool, ◌&&◌, ◌||◌, List, [], ◌∷◌, eqb, ltb}
 use Rattle.paper.specs.Notation.{bit, pick, among}
 use Rattle.paper.specs.declared.Reason.TheVariants.{Reserved as RESERVED, Modifier as MODIFIER, Relative as RELATIVE}
-use Rattle.paper.specs.declared.Token.{Token}
-use Rattle.paper.specs.declared.Token.TheVariants.{Good, Bad}
+use Rattle.paper.specs.Judgements.{Token, good_token, bad_token}
 
 -- so many bits from one on, and the bits from one down to another: "Bits 27:24" are `span 27 24`
 abbrev pub bits_from : ℕ → ℕ → List ℕ
@@ -35,6 +34,6 @@ lowest test = lowest_from test 0 31
 -- "a wrong modifier is told by bit 24", and "bit 13 set where it may not be is RELATIVE"
 abbrev pub fault_by : ℕ → (ℕ → Bool) → Bool → Bool → Token
 fault_by token reserved is_relative_laid is_modifier_laid =
-    pick (eqb (bit 31 token) 0) (Bad RESERVED 31)
-    (pick (ltb (lowest reserved) 31) (Bad RESERVED (lowest reserved))
-    (pick is_relative_laid (pick is_modifier_laid Good (Bad MODIFIER 24)) (Bad RELATIVE 13)))
+    pick (eqb (bit 31 token) 0) (bad_token RESERVED 31)
+    (pick (ltb (lowest reserved) 31) (bad_token RESERVED (lowest reserved))
+    (pick is_relative_laid (pick is_modifier_laid good_token (bad_token MODIFIER 24)) (bad_token RELATIVE 13)))

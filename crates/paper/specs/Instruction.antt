@@ -14,18 +14,11 @@ use Rattle.paper.specs.Blocks.{class_of}
 use Rattle.paper.specs.declared.Version.{Version}
 use Rattle.paper.specs.declared.Reason.{Reason}
 use Rattle.paper.specs.declared.Reason.TheVariants.{Opcode as OPCODE, Bits as BITS, RunOut as RUN_OUT, Size as SIZE}
-use Rattle.paper.specs.declared.Token.{Token}
-use Rattle.paper.specs.declared.Token.TheVariants.{Good as good, Bad as bad}
-use Rattle.paper.specs.declared.Taken.{Taken}
-use Rattle.paper.specs.declared.Taken.TheVariants.{Took as took, Refused as refused}
-use Rattle.paper.specs.declared.Operands.{Operands}
-use Rattle.paper.specs.declared.Operands.TheVariants.{Fit, Refused as unfit}
+use Rattle.paper.specs.Judgements.{Token, good_token, bad_token, Taken, operand_taken, operand_refused, Operands, good_operands, bad_operands, Judged, good_instruction, bad_instruction}
 use Rattle.paper.specs.declared.Class.{Class}
 use Rattle.paper.specs.declared.Class.TheVariants.{One, Closes}
 use Rattle.paper.specs.declared.Single.TheVariants.{Comment}
 use Rattle.paper.specs.declared.Closer.TheVariants.{End}
-use Rattle.paper.specs.declared.Judged.{Judged}
-use Rattle.paper.specs.declared.Judged.TheVariants.{Good, Refused}
 
 -- how many tokens an instruction of the table claims behind its first one: its stated size; where there is none "the opcode alone gives the
 -- cutting" (document 02, Q-4), a token to an operand
@@ -53,22 +46,22 @@ token_head v token =
 
 -- an operand takes one or two of the tokens that are left, or is refused
 abbrev pub on_token : Token → ℕ → Taken → Taken
-on_token good offset next = next
-on_token (bad reason bit) offset next = refused (refusal_at_bit reason offset bit)
+on_token good_token offset next = next
+on_token (bad_token reason bit) offset next = operand_refused (refusal_at_bit reason offset bit)
 
 abbrev pub relative_token : Version → ℕ → List ℕ → Taken
-relative_token v offset [] = refused (refusal SIZE 0)
-relative_token v offset (token ∷ rest) = on_token (token_at v relative token) offset (took 2)
+relative_token v offset [] = operand_refused (refusal SIZE 0)
+relative_token v offset (token ∷ rest) = on_token (token_at v relative token) offset (operand_taken 2)
 
 unfoldable pub operand : Version → Place → ℕ → List ℕ → Taken
-operand v place offset [] = refused (refusal SIZE 0)
+operand v place offset [] = operand_refused (refusal SIZE 0)
 operand v place offset (token ∷ rest) =
     on_token (token_at v place token) offset
-    (pick (brings_relative place token) (relative_token v (offset + 1) rest) (took 1))
+    (pick (brings_relative place token) (relative_token v (offset + 1) rest) (operand_taken 1))
 
 abbrev pub on_taken : Taken → (ℕ → Operands) → Operands
-on_taken (took n) next = next n
-on_taken (refused r) next = unfit r
+on_taken (operand_taken n) next = next n
+on_taken (operand_refused r) next = bad_operands r
 
 -- the places from left to right, with the offset of the next token and the tokens of the stated size that are left
 unfoldable pub operands : Version → List Place → ℕ → List ℕ → Operands
@@ -81,8 +74,8 @@ abbrev pub operands_of : Version → ℕ → List Place → List ℕ → Operand
 operands_of v opcode places behind = pick (eqb opcode DCL) (declaration v behind) (operands v places 1 behind)
 
 abbrev pub on_operands : Operands → ℕ → Class → Judged
-on_operands Fit size class = Good size class
-on_operands (unfit r) size class = Refused r
+on_operands good_operands size class = good_instruction size class
+on_operands (bad_operands r) size class = bad_instruction r
 
 -- the claim of any instruction
 abbrev pub claim : Head → ℕ
@@ -93,19 +86,19 @@ claim (operation places size) = size
 
 -- an instruction with this opcode, where the tokens that it claims are there
 abbrev pub on_claimed : Version → Head → ℕ → List ℕ → Judged
-on_claimed v (broken reason) opcode behind = Refused (refusal reason 0)
-on_claimed v end opcode behind = Good 0 (Closes End)
-on_claimed v (comment size) opcode behind = Good size (One Comment)
+on_claimed v (broken reason) opcode behind = bad_instruction (refusal reason 0)
+on_claimed v end opcode behind = good_instruction 0 (Closes End)
+on_claimed v (comment size) opcode behind = good_instruction size (One Comment)
 on_claimed v (operation places size) opcode behind = on_operands (operands_of v opcode places behind) size (class_of opcode)
 
 -- "stated size or comment length passes the end"
 abbrev pub within : ℕ → List ℕ → Judged → Judged
-within size rest next = pick (leb size (length rest)) next (Refused (refusal RUN_OUT 0))
+within size rest next = pick (leb size (length rest)) next (bad_instruction (refusal RUN_OUT 0))
 
 abbrev pub by_head : Version → Head → ℕ → List ℕ → Judged
 by_head v head opcode rest = within (claim head) rest (on_claimed v head opcode (take (claim head) rest))
 
 -- "no token where an instruction must start" is RUN-OUT at the token count
 unfoldable pub judged : Version → List ℕ → Judged
-judged v [] = Refused (refusal RUN_OUT 0)
+judged v [] = bad_instruction (refusal RUN_OUT 0)
 judged v (token ∷ rest) = by_head v (token_head v token) (opcode_of token) rest

@@ -2,6 +2,7 @@
 -- of Q-4, one for the faults of Q-3, and one of notation.
 pub mod Notation
 pub mod Versions
+pub mod Judgements
 pub mod Numbers
 pub mod OpcodeTable
 pub mod FirstVersions

@@ -1,21 +1,15 @@
 -- Document 01, "The numbers given back", with document 02's Q-3.
-use Rattle.std.specs.Prelude.{ℕ, suc, ◌+◌, ◌*◌, eqb}
+use Rattle.std.specs.Prelude.{ℕ, suc, ◌+◌, ◌*◌, eqb, Option, Some, None, Ok, Err}
 use Rattle.paper.specs.Notation.{pick}
 use Rattle.paper.specs.Versions.{version_token}
-use Rattle.paper.specs.declared.Named.{Named}
-use Rattle.paper.specs.declared.Named.TheVariants.{Known, Unknown}
+use Rattle.paper.specs.Judgements.{Token, good_token, bad_token, Judged, good_instruction, bad_instruction, Verdict}
+use Rattle.paper.specs.declared.Version.{Version}
 use Rattle.paper.specs.declared.Reason.{Reason}
 use Rattle.paper.specs.declared.Reason.TheVariants.{Length as LENGTH, Version as VERSION, Opcode as OPCODE, Bits as BITS, RunOut as RUN_OUT, Size as SIZE, Register as REGISTER, Block as BLOCK, Depth as DEPTH, Tail as TAIL, Place as PLACE, Room as ROOM, Record as RECORD, Reserved as RESERVED, Modifier as MODIFIER, Relative as RELATIVE}
 use Rattle.paper.specs.declared.Refusal.{Refusal}
 use Rattle.paper.specs.declared.Single.TheVariants.{Plain}
 use Rattle.paper.specs.declared.Class.{Class}
 use Rattle.paper.specs.declared.Class.TheVariants.{One}
-use Rattle.paper.specs.declared.Token.{Token}
-use Rattle.paper.specs.declared.Token.TheVariants.{Good as GoodToken, Bad as BadToken}
-use Rattle.paper.specs.declared.Judged.{Judged}
-use Rattle.paper.specs.declared.Judged.TheVariants.{Good as GoodInstruction, Refused as RefusedInstruction}
-use Rattle.paper.specs.declared.Verdict.{Verdict}
-use Rattle.paper.specs.declared.Verdict.TheVariants.{Accepted, Refused}
 
 -- Q-3: "Number 7 goes out of use. Refusals: 16 RESERVED, 17 MODIFIER, 18 RELATIVE"
 abbrev pub number_of : Reason → ℕ
@@ -75,17 +69,17 @@ pub record ToldVerdict : Type 0 where
 
 -- a yes has number 0, position 0 and detail 0, a refusal tells of no instructions
 abbrev pub told : Verdict → ToldVerdict
-told (Accepted n) = record { number = 0; position = 0; detail = 0; instructions = n }
-told (Refused r) = record { number = number_of r.reason; position = r.position; detail = r.detail; instructions = 0 }
+told (Ok n) = record { number = 0; position = 0; detail = 0; instructions = n }
+told (Err r) = record { number = number_of r.reason; position = r.position; detail = r.detail; instructions = 0 }
 
 -- what is told of a version: a yes has number 0 and gives the first token that names the version; a token that names none is VERSION
 pub record ToldNamed : Type 0 where
   pub number : ℕ
   pub token : ℕ
 
-unfoldable pub told_named : Named → ToldNamed
-told_named (Known v) = record { number = 0; token = version_token v }
-told_named Unknown = record { number = number_of VERSION; token = 0 }
+unfoldable pub told_named : Option Version → ToldNamed
+told_named (Some v) = record { number = 0; token = version_token v }
+told_named None = record { number = number_of VERSION; token = 0 }
 
 -- what is told of one fault: its number, and above it the bit
 abbrev pub fault_of : Reason → ℕ → ℕ
@@ -93,8 +87,8 @@ fault_of reason bit = number_of reason + 32 * bit
 
 -- what is told of one token: 0, or its fault
 abbrev pub told_token : Token → ℕ
-told_token GoodToken = 0
-told_token (BadToken reason bit) = fault_of reason bit
+told_token good_token = 0
+told_token (bad_token reason bit) = fault_of reason bit
 
 -- what is told of one instruction: a yes has number 0, position 0 and detail 0, and gives how many tokens it takes and its class; a refusal takes
 -- none
@@ -106,6 +100,6 @@ pub record ToldInstruction : Type 0 where
   pub class : Class
 
 unfoldable pub told_instruction : Judged → ToldInstruction
-told_instruction (GoodInstruction size class) = record { number = 0; position = 0; detail = 0; takes = suc size; class = class }
-told_instruction (RefusedInstruction r) =
+told_instruction (good_instruction size class) = record { number = 0; position = 0; detail = 0; takes = suc size; class = class }
+told_instruction (bad_instruction r) =
     record { number = number_of r.reason; position = r.position; detail = r.detail; takes = 0; class = One Plain }

@@ -8,10 +8,7 @@ use Rattle.paper.specs.Places.{Types, free, only, Place, raw, usage, declared, d
 use Rattle.paper.specs.declared.Version.{Version}
 use Rattle.paper.specs.declared.Reason.{Reason}
 use Rattle.paper.specs.declared.Reason.TheVariants.{Size as SIZE, Register as REGISTER}
-use Rattle.paper.specs.declared.Operands.{Operands}
-use Rattle.paper.specs.declared.Operands.TheVariants.{Fit, Refused}
-use Rattle.paper.specs.declared.Token.{Token}
-use Rattle.paper.specs.declared.Token.TheVariants.{Good, Bad}
+use Rattle.paper.specs.Judgements.{Token, good_token, bad_token, Operands, good_operands, bad_operands}
 
 -- "number 10:0; type = bits 30:28 plus 8 times bits 12:11"
 abbrev pub number_field : ℕ → ℕ
@@ -160,12 +157,12 @@ zeros_at v place = pick (is_destination place) (written_zeros v) (span 15 14)
 -- what is wrong with the layout of a token at its place: nothing of R and of U, which is told of beside its destination
 unfoldable pub fault_at : Version → Place → ℕ → Token
 fault_at v place token =
-    pick (is_raw place) Good
+    pick (is_raw place) good_token
     (fault_by token (offends (zeros_at v place) [] token) (relative_laid v place token) (modifier_laid v place (modifier_of token) (type_of token)))
 
 -- "each token: layout, then type"; where the layout is not right its fault is told
 abbrev pub by_type : Bool → Token
-by_type is_typed = pick is_typed Good (Bad REGISTER 0)
+by_type is_typed = pick is_typed good_token (bad_token REGISTER 0)
 
 abbrev pub layout_then_type : Bool → Bool → Token → Token
 layout_then_type is_laid is_typed fault = pick is_laid (by_type is_typed) fault
@@ -178,9 +175,9 @@ abbrev pub brings_relative : Place → ℕ → Bool
 brings_relative place token = is_free place && eqb (bit 13 token) 1
 
 abbrev pub refused_operands : Reason → ℕ → Operands
-refused_operands reason position = Refused (refusal reason position)
+refused_operands reason position = bad_operands (refusal reason position)
 
 -- "SIZE for tokens left over"
 abbrev pub left_over : List ℕ → Operands
-left_over [] = Fit
+left_over [] = good_operands
 left_over (token ∷ rest) = refused_operands SIZE 0

@@ -1,5 +1,5 @@
 -- Document 01, "What the build does" and "The numbers given back": the verdict of a stream.
-use Rattle.std.specs.Prelude.{ℕ, zero, suc, ◌+◌, Bool, ◌&&◌, List, [], ◌∷◌, leb, length, drop, get_or}
+use Rattle.std.specs.Prelude.{ℕ, zero, suc, ◌+◌, Bool, ◌&&◌, List, [], ◌∷◌, leb, length, drop, get_or, Option, Some, None, Err}
 use Rattle.paper.specs.Notation.{pick}
 use Rattle.paper.specs.Versions.{named}
 use Rattle.paper.specs.Numbers.{refusal, moved_by, ToldVerdict, told}
@@ -7,18 +7,13 @@ use Rattle.paper.specs.Instruction.{judged}
 use Rattle.paper.specs.Blocks.{Cut, out, wrong, then}
 use Rattle.paper.specs.Walk.{begin, walk}
 use Rattle.paper.specs.declared.Version.{Version}
-use Rattle.paper.specs.declared.Named.{Named}
-use Rattle.paper.specs.declared.Named.TheVariants.{Known, Unknown}
+use Rattle.paper.specs.Judgements.{Judged, good_instruction, bad_instruction, Verdict}
 use Rattle.paper.specs.declared.Reason.TheVariants.{Length as LENGTH, Version as VERSION}
-use Rattle.paper.specs.declared.Judged.{Judged}
-use Rattle.paper.specs.declared.Judged.TheVariants.{Good, Refused}
-use Rattle.paper.specs.declared.Verdict.{Verdict}
-use Rattle.paper.specs.declared.Verdict.TheVariants.{Refused as no_verdict}
 
 -- the instruction at a position, and what follows it
 abbrev pub cut_one : Judged → ℕ → (ℕ → Cut) → Cut
-cut_one (Good size class) p rest = then class p (rest (suc size))
-cut_one (Refused r) p rest = wrong p (moved_by (λ q. p + q) r)
+cut_one (good_instruction size class) p rest = then class p (rest (suc size))
+cut_one (bad_instruction r) p rest = wrong p (moved_by (λ q. p + q) r)
 
 -- tokens from position p on, cut into instructions; the first number bounds how many there are
 unfoldable pub cutting : ℕ → Version → List ℕ → ℕ → Cut
@@ -42,15 +37,15 @@ most_tokens = 16384
 abbrev pub length_laid : ℕ → Bool
 length_laid n = leb 2 n && leb n most_tokens
 
-abbrev pub on_named : Named → (Version → Verdict) → Verdict
-on_named (Known v) next = next v
-on_named Unknown next = no_verdict (refusal VERSION 0)
+abbrev pub on_named : Option Version → (Version → Verdict) → Verdict
+on_named (Some v) next = next v
+on_named None next = Err (refusal VERSION 0)
 
 -- "the first in this order: LENGTH, VERSION, then instruction by instruction"
 unfoldable pub verdict : List ℕ → Verdict
 verdict stream =
     pick (length_laid (length stream)) (on_named (named (get_or stream 0 0)) (λ v. walked v stream))
-    (no_verdict (refusal LENGTH 0))
+    (Err (refusal LENGTH 0))
 
 -- what a check tells of a stream
 abbrev pub checked : List ℕ → ToldVerdict

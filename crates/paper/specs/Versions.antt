@@ -1,11 +1,9 @@
 -- Document 01, "What the build does": "The base knows four versions, by first token"; document 02, Q-4: five more; and what the papers say of
 -- each, one row to a version.
-use Rattle.std.specs.Prelude.{ℕ, Bool, true, false, ◌||◌, List, [], ◌∷◌, eqb}
+use Rattle.std.specs.Prelude.{ℕ, Bool, true, false, ◌||◌, List, [], ◌∷◌, eqb, Option, Some, None}
 use Rattle.paper.specs.Notation.{pick}
 use Rattle.paper.specs.declared.Version.{Version}
 use Rattle.paper.specs.declared.Version.TheVariants.{V2, V3, P2, P3, V1, P11, P12, P13, P14}
-use Rattle.paper.specs.declared.Named.{Named}
-use Rattle.paper.specs.declared.Named.TheVariants.{Known, Unknown}
 
 -- What a version has. Its first token, and "vertex" or "pixel"; whether its instructions state a size, whether they have "co-issue bit 30",
 -- and whether it has predicates: "only V3 and P3"; whether "destination bits 27:24, the shift scale, are free", and whether it "adds modifiers
@@ -56,11 +54,11 @@ abbrev pub version_token : Version → ℕ
 version_token v = (has v).first_token
 
 -- the version that a token names
-abbrev pub named_among : List Version → ℕ → Named
-named_among [] token = Unknown
-named_among (v ∷ vs) token = pick (eqb token (version_token v)) (Known v) (named_among vs token)
+abbrev pub named_among : List Version → ℕ → Option Version
+named_among [] token = None
+named_among (v ∷ vs) token = pick (eqb token (version_token v)) (Some v) (named_among vs token)
 
-abbrev pub named : ℕ → Named
+abbrev pub named : ℕ → Option Version
 named token = named_among versions token
 
 -- two versions are one if their first tokens are

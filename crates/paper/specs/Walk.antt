@@ -1,5 +1,5 @@
 -- Document 01, "Blocks": the walk with open blocks; document 02, Q-4: PHASE "belongs to the walk's state".
-use Rattle.std.specs.Prelude.{ℕ, suc, Bool, true, false, ◌||◌, List, [], ◌∷◌, ltb, length}
+use Rattle.std.specs.Prelude.{ℕ, suc, Bool, true, false, ◌||◌, List, [], ◌∷◌, ltb, length, Ok, Err}
 use Rattle.paper.specs.Notation.{pick}
 use Rattle.paper.specs.Numbers.{refusal}
 use Rattle.paper.specs.Blocks.{Cut, out, wrong, then, may_stand, is_phase, loops_in, most_open}
@@ -12,8 +12,7 @@ use Rattle.paper.specs.declared.Class.TheVariants.{One, Opens, Closes}
 use Rattle.paper.specs.declared.Single.TheVariants.{Comment, Plain, Break, Label, Return, Phase}
 use Rattle.paper.specs.declared.Reason.{Reason}
 use Rattle.paper.specs.declared.Reason.TheVariants.{RunOut as RUN_OUT, Block as BLOCK, Depth as DEPTH, Tail as TAIL}
-use Rattle.paper.specs.declared.Verdict.{Verdict}
-use Rattle.paper.specs.declared.Verdict.TheVariants.{Accepted, Refused}
+use Rattle.paper.specs.Judgements.{Verdict}
 
 -- an open block: its opener, or an IF past its ELSE
 pub data Kind : Type 0 where
@@ -134,17 +133,17 @@ counts (Closes End) n = n
 
 -- "tokens after END" are TAIL, at the "first of them"
 abbrev pub at_end : ℕ → Cut → Verdict
-at_end count (out p) = Accepted count
-at_end count (wrong p r) = Refused (refusal TAIL p)
-at_end count (then c p rest) = Refused (refusal TAIL p)
+at_end count (out p) = Ok count
+at_end count (wrong p r) = Err (refusal TAIL p)
+at_end count (then c p rest) = Err (refusal TAIL p)
 
 abbrev pub on_next : Next → ℕ → ℕ → Cut → (WalkState → Verdict) → Verdict
 on_next (go w) count p rest walk = walk w
-on_next (bad reason) count p rest walk = Refused (refusal reason p)
+on_next (bad reason) count p rest walk = Err (refusal reason p)
 on_next finish count p rest walk = at_end count rest
 
 -- the verdict of the walk behind so many instructions, in this state
 unfoldable pub walk : ℕ → Cut → WalkState → Verdict
-walk count (out p) w = Refused (refusal RUN_OUT p)
-walk count (wrong p r) w = Refused r
+walk count (out p) w = Err (refusal RUN_OUT p)
+walk count (wrong p r) w = Err r
 walk count (then c p rest) w = on_next (step w c) count p rest (λ next. walk (counts c count) rest next)

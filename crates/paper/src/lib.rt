@@ -2,7 +2,7 @@
 #![tactic(auto)]
 
 ghost use Rattle.std.specs.Prelude.{◌≡◌};
-ghost use Rattle.paper.specs.Numbers.{number_of};
+ghost use Rattle.paper.specs.Numbers.{number_of, refusal};
 
 // "fewer than 2 or more than 16,384 tokens"
 pub const FEWEST_TOKENS: usize = 2;
@@ -32,66 +32,42 @@ pub enum Version {
     V1,
 }
 
-// What a first token, or a version that is passed, stands for.
-#[derive(Clone, Copy)]
-pub enum Named {
-    Known(Version),
-    Unknown,
-}
-
-// "The numbers given back", by name, and those of document 02.
+// "The numbers given back", and those of document 02.
 #[derive(Clone, Copy)]
 pub enum Reason {
-    Length,
-    Version,
-    Opcode,
-    Bits,
-    RunOut,
-    Size,
-    Register,
-    Block,
-    Depth,
-    Tail,
-    Place,
-    Room,
-    Record,
-    Reserved,
-    Modifier,
-    Relative,
+    Length = 1,
+    Version = 2,
+    Opcode = 3,
+    Bits = 4,
+    RunOut = 5,
+    Size = 6,
+    Register = 8,
+    Block = 9,
+    Depth = 10,
+    Tail = 11,
+    Place = 12,
+    Room = 13,
+    Record = 14,
+    Reserved = 16,
+    Modifier = 17,
+    Relative = 18,
 }
 
 // The numbers of the faults that are told of operands.
-pub const SIZE: u32 = 6;
+pub const SIZE: u32 = Reason::Size as u32;
 
-pub const REGISTER: u32 = 8;
+pub const REGISTER: u32 = Reason::Register as u32;
 
-pub const RESERVED: u32 = 16;
+pub const RESERVED: u32 = Reason::Reserved as u32;
 
-pub const MODIFIER: u32 = 17;
+pub const MODIFIER: u32 = Reason::Modifier as u32;
 
-pub const RELATIVE: u32 = 18;
+pub const RELATIVE: u32 = Reason::Relative as u32;
 
 pub fn number_of(reason: Reason) -> u32
     ensures { result ≡ number_of reason }
 {
-    match reason {
-        Reason::Length => 1,
-        Reason::Version => 2,
-        Reason::Opcode => 3,
-        Reason::Bits => 4,
-        Reason::RunOut => 5,
-        Reason::Size => SIZE,
-        Reason::Register => REGISTER,
-        Reason::Block => 9,
-        Reason::Depth => 10,
-        Reason::Tail => 11,
-        Reason::Place => 12,
-        Reason::Room => 13,
-        Reason::Record => 14,
-        Reason::Reserved => RESERVED,
-        Reason::Modifier => MODIFIER,
-        Reason::Relative => RELATIVE,
-    }
+    reason as u32
 }
 
 // A refusal: why, the position of a token, and what the number says besides, of an operand's layout the lowest offending bit; else 0.
@@ -102,8 +78,21 @@ pub struct Refusal {
     pub detail: usize,
 }
 
+impl Refusal {
+    // A refusal of which the number says all.
+    pub fn at(position: usize, reason: Reason) -> Refusal
+        ensures { result ≡ refusal reason position }
+    {
+        Refusal {
+            reason,
+            position,
+            detail: 0,
+        }
+    }
+}
+
 // "an item is one instruction or a block": what an instruction is to the blocks around it.
-#[derive(Clone, Copy)]
+#[derive(Clone, Copy, PartialEq, Eq)]
 pub enum Single {
     Comment,
     Plain,
@@ -113,14 +102,14 @@ pub enum Single {
     Phase,
 }
 
-#[derive(Clone, Copy)]
+#[derive(Clone, Copy, PartialEq, Eq)]
 pub enum Opener {
     If,
     Loop,
     Rep,
 }
 
-#[derive(Clone, Copy)]
+#[derive(Clone, Copy, PartialEq, Eq)]
 pub enum Closer {
     Else,
     EndIf,
@@ -136,38 +125,12 @@ pub enum Class {
     Closes(Closer),
 }
 
-// One token, judged at its place: good, or why not, and the bit.
+// One instruction that is laid out right: how many tokens it takes behind its first one, and its class.
 #[derive(Clone, Copy)]
-pub enum Token {
-    Good,
-    Bad(Reason, usize),
-}
-
-// One operand, judged: how many tokens it takes.
-#[derive(Clone, Copy)]
-pub enum Taken {
-    Took(usize),
-    Refused(Refusal),
-}
-
-// The operands of an instruction, judged: they take its tokens, no fewer and no more.
-#[derive(Clone, Copy)]
-pub enum Operands {
-    Fit,
-    Refused(Refusal),
-}
-
-// One instruction, judged: how many tokens it takes behind its first one, and its class.
-// A refusal's position counts from the instruction.
-#[derive(Clone, Copy)]
-pub enum Judged {
-    Good(usize, Class),
-    Refused(Refusal),
+pub struct Instruction {
+    pub size: usize,
+    pub class: Class,
 }
 
 // A whole stream, judged: the number of its instructions.
-#[derive(Clone, Copy)]
-pub enum Verdict {
-    Accepted(usize),
-    Refused(Refusal),
-}
+pub type Verdict = Result<usize, Refusal>;

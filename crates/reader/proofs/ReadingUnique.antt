@@ -8,7 +8,7 @@ use Rattle.paper.specs.Instruction.{judged}
 use Rattle.paper.specs.declared.Version.{Version}
 use Rattle.paper.proofs.OneToOne.{same_refusal, no_reason_zero}
 use Rattle.paper.specs.declared.Class.{Class}
-use Rattle.paper.specs.declared.Judged.TheVariants.{Good as Lawful}
+use Rattle.paper.specs.Judgements.{good_instruction}
 use Rattle.records.specs.declared.Record.{Record}
 use Rattle.records.specs.Record.{record_of}
 use Rattle.records.proofs.OwnRecord.{record_own}
@@ -41,7 +41,7 @@ pub reading_unique : (version : ℕ) (tokens : List ℕ) (at : ℕ) (r : Reading
 reading_unique version tokens at r e = told_one r (reading version tokens at) e
 
 -- "one instruction has one record"
-pub reading_own : (v : Version) (tokens : List ℕ) (at size : ℕ) (class : Class) → at < length tokens → judged v (drop at tokens) ≡ Lawful size class →
+pub reading_own : (v : Version) (tokens : List ℕ) (at size : ℕ) (class : Class) → at < length tokens → judged v (drop at tokens) ≡ good_instruction size class →
     reading_at v tokens at ≡ got (at + size + 1) (record_of v (take (suc size) (drop at tokens)))
 unfolding reading_at
 reading_own v tokens at size class some j = rw (lt-ltb at (length tokens) some, j, record_own v (drop at tokens) j)

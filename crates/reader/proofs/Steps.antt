@@ -11,8 +11,7 @@ use borrow.Author.Tests.{lt-ltb}
 use Rattle.paper.specs.Numbers.{reason_by, refusal_at_bit}
 use Rattle.paper.specs.Instruction.{judged}
 use Rattle.paper.specs.declared.Version.{Version}
-use Rattle.paper.specs.declared.Judged.{Judged}
-use Rattle.paper.specs.declared.Judged.TheVariants.{Good as Lawful, Refused as Unlawful}
+use Rattle.paper.specs.Judgements.{Judged, good_instruction, bad_instruction}
 use Rattle.paper.proofs.Bools.{apart}
 use Rattle.paper.proofs.OneInstruction.{judged_near, judged_bit}
 use Rattle.paper.proofs.OwnTokens.{good_within}
@@ -46,7 +45,7 @@ module _ (v : Version) (s : List ℕ) (at told : ℕ) (some : at < length s) (is
 
   got_by : (j : Judged) → judged v (drop at s) ≡ j → told ≡ judged_number j → is_refusal told ≡ false → Got
   unfolding reading_at record_of
-  got_by (Lawful size class) e t f =
+  got_by (good_instruction size class) e t f =
       let long : size_in told ≡ size = rw t (yes_size size class) in
       let kind : kind_in told ≡ class_number class = rw t (yes_class size class) in
       let width : at + 1 + size - (at + 1) ≡ size = omega arith in
@@ -57,12 +56,12 @@ module _ (v : Version) (s : List ℕ) (at told : ℕ) (some : at < length s) (is
         readable = rw (long, kind, width) read.readable;
         inside = omega (arith, long, good_within size class v (drop at s) e, length-drop at s);
       }
-  got_by (Unlawful r) e t f = let odd = sym (refusal_odd r) ∙ ap is_refusal (sym t) ∙ f in apart (cc)
+  got_by (bad_instruction r) e t f = let odd = sym (refusal_odd r) ∙ ap is_refusal (sym t) ∙ f in apart (cc)
 
   unread_by_lem : (j : Judged) → judged v (drop at s) ≡ j → told ≡ judged_number j → is_refusal told ≡ true → Unread
   unfolding reading_at
-  unread_by_lem (Lawful size class) e t f = let even = sym (yes_even size class) ∙ ap is_refusal (sym t) ∙ f in apart (cc)
-  unread_by_lem (Unlawful r) e t f =
+  unread_by_lem (good_instruction size class) e t f = let even = sym (yes_even size class) ∙ ap is_refusal (sym t) ∙ f in apart (cc)
+  unread_by_lem (bad_instruction r) e t f =
       let bit : r.detail < 32 = rw e at (judged_bit v (drop at s)) in
       let place : position_in told ≡ r.position = rw t (refusal_position r bit) in
       let why : reason_by (number_in told) ≡ r.reason = rw t (refusal_reason r bit) in

@@ -1,19 +1,16 @@
 -- Document 01, "Records": "The reader takes a version, tokens and a place and gives the record and the next place, or LENGTH (over 16,384
 -- only), VERSION, RUN-OUT, then one instruction's refusals up to SIZE."
-use Rattle.std.specs.Prelude.{ℕ, ◌+◌, List, leb, ltb, length, drop}
+use Rattle.std.specs.Prelude.{ℕ, ◌+◌, List, leb, ltb, length, drop, Option, Some, None}
 use Rattle.paper.specs.Notation.{pick}
 use Rattle.paper.specs.Versions.{named}
 use Rattle.paper.specs.Numbers.{number_of, refusal, moved_by}
 use Rattle.paper.specs.Instruction.{judged}
 use Rattle.paper.specs.Stream.{most_tokens}
 use Rattle.paper.specs.declared.Version.{Version}
-use Rattle.paper.specs.declared.Named.{Named}
-use Rattle.paper.specs.declared.Named.TheVariants.{Known, Unknown}
+use Rattle.paper.specs.Judgements.{Judged, good_instruction, bad_instruction}
 use Rattle.paper.specs.declared.Reason.{Reason}
 use Rattle.paper.specs.declared.Reason.TheVariants.{Length as LENGTH, Version as VERSION, RunOut as RUN_OUT}
 use Rattle.paper.specs.declared.Refusal.{Refusal}
-use Rattle.paper.specs.declared.Judged.{Judged}
-use Rattle.paper.specs.declared.Judged.TheVariants.{Good as good, Refused as bad}
 use Rattle.records.specs.declared.Record.{Record}
 use Rattle.records.specs.Record.{no_record, record_of}
 use Rattle.reader.specs.declared.Answer.{Answer}
@@ -32,8 +29,8 @@ got next instruction = record { answer = Got next; instruction = instruction }
 
 -- the instruction at a place, judged; positions count from the first token
 abbrev pub read_judged : Judged → ℕ → Record → Reading
-read_judged (good size class) at instruction = got (at + size + 1) instruction
-read_judged (bad r) at instruction = unread_by (moved_by (λ p. at + p) r)
+read_judged (good_instruction size class) at instruction = got (at + size + 1) instruction
+read_judged (bad_instruction r) at instruction = unread_by (moved_by (λ p. at + p) r)
 
 -- "no token where an instruction must start": RUN-OUT at the token count
 unfoldable pub reading_at : Version → List ℕ → ℕ → Reading
@@ -41,9 +38,9 @@ reading_at v tokens at =
     pick (ltb at (length tokens)) (read_judged (judged v (drop at tokens)) at (record_of v (drop at tokens)))
     (unread RUN_OUT (length tokens))
 
-abbrev pub on_version : Named → List ℕ → ℕ → Reading
-on_version (Known v) tokens at = reading_at v tokens at
-on_version Unknown tokens at = unread VERSION 0
+abbrev pub on_version : Option Version → List ℕ → ℕ → Reading
+on_version (Some v) tokens at = reading_at v tokens at
+on_version None tokens at = unread VERSION 0
 
 unfoldable pub reading : ℕ → List ℕ → ℕ → Reading
 reading version tokens at = pick (leb (length tokens) most_tokens) (on_version (named version) tokens at) (unread LENGTH 0)

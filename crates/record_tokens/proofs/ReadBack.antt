@@ -12,22 +12,22 @@ use Rattle.paper.specs.declared.Version.{Version}
 use Rattle.paper.specs.declared.Class.{Class}
 use Rattle.paper.specs.declared.Class.TheVariants.{One}
 use Rattle.paper.specs.declared.Single.TheVariants.{Comment}
-use Rattle.paper.specs.declared.Judged.TheVariants.{Good as Lawful}
+use Rattle.paper.specs.Judgements.{good_instruction}
 use Rattle.records.specs.Record.{comment_record, record_of}
 use Rattle.records.proofs.OwnRecord.{record_own}
 use Rattle.paper.proofs.OwnTokens.{good_own}
 use Rattle.record_tokens.specs.Tokens.{Words, comment_token, tokens_of, comment_body}
 use Rattle.record_tokens.proofs.WrittenBack.{written_back}
 
-module _ (v : Version) (tokens : List ℕ) {size : ℕ} {class : Class} (words : Words tokens) (j : judged v tokens ≡ Lawful size class) where
-  pub judged_back : judged v (tokens_of v (record_of v tokens) (comment_body v tokens)) ≡ Lawful size class
+module _ (v : Version) (tokens : List ℕ) {size : ℕ} {class : Class} (words : Words tokens) (j : judged v tokens ≡ good_instruction size class) where
+  pub judged_back : judged v (tokens_of v (record_of v tokens) (comment_body v tokens)) ≡ good_instruction size class
   judged_back = rw (written_back v tokens words j) (good_own size class v tokens j)
 
   pub record_back : record_of v (tokens_of v (record_of v tokens) (comment_body v tokens)) ≡ record_of v tokens
   record_back = rw (written_back v tokens words j) (record_own v tokens j)
 
 -- one record, and one body where it is a comment's, has one instruction
-pub one_instruction : (v : Version) (a b : List ℕ) {m n : ℕ} {c d : Class} → Words a → Words b → judged v a ≡ Lawful m c → judged v b ≡ Lawful n d →
+pub one_instruction : (v : Version) (a b : List ℕ) {m n : ℕ} {c d : Class} → Words a → Words b → judged v a ≡ good_instruction m c → judged v b ≡ good_instruction n d →
     record_of v a ≡ record_of v b → comment_body v a ≡ comment_body v b → take (suc m) a ≡ take (suc n) b
 one_instruction v a b words-a words-b j k same body =
     sym (written_back v a words-a j) ∙ rw (same, body) (written_back v b words-b k)
@@ -51,7 +51,7 @@ module _ (v : Version) (n : ℕ) (fits : n < 2 ^ 15) where
   unfolding tokens_of
   comment_written body = refl
 
-  pub comment_judged : (body : List ℕ) → length body ≡ n → judged v (comment_token n ∷ body) ≡ Lawful n (One Comment)
+  pub comment_judged : (body : List ℕ) → length body ≡ n → judged v (comment_token n ∷ body) ≡ good_instruction n (One Comment)
   unfolding judged
   comment_judged body h = rw (comment_head, le-leb n (length body) (omega arith))
 

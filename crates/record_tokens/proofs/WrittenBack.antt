@@ -15,7 +15,7 @@ use Rattle.paper.specs.Instruction.{claimed, Head, token_head, claim, on_claimed
 use Rattle.paper.specs.Places.{Place, is_predicate}
 use Rattle.paper.specs.declared.Version.{Version}
 use Rattle.paper.specs.declared.Class.{Class}
-use Rattle.paper.specs.declared.Judged.TheVariants.{Good as Lawful}
+use Rattle.paper.specs.Judgements.{good_instruction}
 use Rattle.paper.proofs.Bools.{apart, both_left, both_right}
 use Rattle.paper.proofs.FirstToken.{Says, is_broken, is_comment_lem, is_end_lem, is_listed, says}
 use Rattle.paper.proofs.OwnTokens.{operands_good, good_claim}
@@ -68,7 +68,7 @@ head_back v first places word l = by (has_sizes v) l
         ap (with_size first) none ∙ instruction_back first word (reserved_zero first zeros) last
 
 module _ (v : Version) (first : ℕ) (rest : List ℕ) (word : first < 2 ^ 32) (words : Words rest) (size : ℕ) (class : Class) (there : size ≤ length rest) where
-  back_by : (h : Head) → Says v first h → claim h ≡ size → on_claimed v h (opcode_of first) (take size rest) ≡ Lawful size class →
+  back_by : (h : Head) → Says v first h → claim h ≡ size → on_claimed v h (opcode_of first) (take size rest) ≡ good_instruction size class →
       tokens_of v (record_on h first rest) (body_on h rest) ≡ first ∷ take size rest
   unfolding tokens_of
   back_by h (is_broken b) k j = apart (cc)
@@ -81,7 +81,7 @@ module _ (v : Version) (first : ℕ) (rest : List ℕ) (word : first < 2 ^ 32) (
       let back = behind_back row (take size rest) (row_passed v first places e l (take size rest) fits.0) (words_take size rest words) (row_few v first places e l) once in
       rw (k, o.no_comment, o.no_end, e, back, length-take-le size rest there, ← k, head_back v first places word l)
 
-pub written_back : (v : Version) (tokens : List ℕ) {size : ℕ} {class : Class} → Words tokens → judged v tokens ≡ Lawful size class →
+pub written_back : (v : Version) (tokens : List ℕ) {size : ℕ} {class : Class} → Words tokens → judged v tokens ≡ good_instruction size class →
     tokens_of v (record_of v tokens) (comment_body v tokens) ≡ take (suc size) tokens
 unfolding judged record_of comment_body Words
 written_back v [] words j = apart (cc)

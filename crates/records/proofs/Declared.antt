@@ -7,9 +7,7 @@ use native.Mathlib.Omega.{arith}
 use Rattle.paper.specs.OperandTokens.{type_of, laid, left_over}
 use Rattle.paper.specs.Dcl.{declaration, is_declared, declared_at, face_laid, usage_laid, usage_at, on_declared}
 use Rattle.paper.specs.declared.Version.{Version}
-use Rattle.paper.specs.declared.Token.{Token}
-use Rattle.paper.specs.declared.Token.TheVariants.{Good, Bad}
-use Rattle.paper.specs.declared.Operands.TheVariants.{Fit}
+use Rattle.paper.specs.Judgements.{Token, good_token, bad_token, good_operands}
 use Rattle.paper.proofs.DclRow.{declared_row}
 use Rattle.paper.proofs.Bools.{apart, never, both_left}
 use Rattle.paper.proofs.Faults.{is_good, declared_good, usage_good}
@@ -18,30 +16,30 @@ use Rattle.records.specs.Record.{width_at}
 use Rattle.records.proofs.Passed.{Passed, AllPassed, none, step}
 
 -- a declared destination is laid out as one, and has no relative token
-pub declared_laid : (v : Version) (d : ℕ) → declared_at v d ≡ Good → laid v declared d ≡ true
+pub declared_laid : (v : Version) (d : ℕ) → declared_at v d ≡ good_token → laid v declared d ≡ true
 declared_laid v d g =
     both_left (laid v declared d) (face_laid v d)
     (both_left (laid v declared d && face_laid v d) (is_declared v (type_of d)) (sym (declared_good v d) ∙ ap is_good g))
 
 -- what a good declaration is
 pub record Declared (v : Version) (u d : ℕ) (rest : List ℕ) : Type 0 where
-  pub destination : declared_at v d ≡ Good
+  pub destination : declared_at v d ≡ good_token
   pub usage : usage_laid v (type_of d) u ≡ true
   pub no_more : rest ≡ []
 
 module _ (v : Version) (u d : ℕ) (rest : List ℕ) where
-  left_good : (tokens : List ℕ) → left_over tokens ≡ Fit → tokens ≡ []
+  left_good : (tokens : List ℕ) → left_over tokens ≡ good_operands → tokens ≡ []
   left_good [] e = refl
   left_good (t ∷ ts) e = apart (cc)
 
   tokens_good : (t used : Token) → declared_at v d ≡ t → usage_at v (type_of d) u ≡ used →
-      on_declared t 2 (on_declared used 1 (left_over rest)) ≡ Fit → Declared v u d rest
-  tokens_good Good Good g l e =
+      on_declared t 2 (on_declared used 1 (left_over rest)) ≡ good_operands → Declared v u d rest
+  tokens_good good_token good_token g l e =
       record { destination = g; usage = sym (usage_good v (type_of d) u) ∙ ap is_good l; no_more = left_good rest e }
-  tokens_good Good (Bad reason bit) g l e = apart (cc)
-  tokens_good (Bad reason bit) used g l e = apart (cc)
+  tokens_good good_token (bad_token reason bit) g l e = apart (cc)
+  tokens_good (bad_token reason bit) used g l e = apart (cc)
 
-  pub declaration_good : declaration v (u ∷ (d ∷ rest)) ≡ Fit → Declared v u d rest
+  pub declaration_good : declaration v (u ∷ (d ∷ rest)) ≡ good_operands → Declared v u d rest
   unfolding declaration
   declaration_good e = tokens_good (declared_at v d) (usage_at v (type_of d) u) refl refl e
 
@@ -60,7 +58,7 @@ module _ (v : Version) (u d : ℕ) (l : laid v declared d ≡ true) where
   both_passed : AllPassed v declared_row (u ∷ (d ∷ []))
   both_passed = step usage_passed (step destination_passed none)
 
-pub declared_passed : (v : Version) (behind : List ℕ) → declaration v behind ≡ Fit → AllPassed v declared_row behind
+pub declared_passed : (v : Version) (behind : List ℕ) → declaration v behind ≡ good_operands → AllPassed v declared_row behind
 unfolding declaration
 declared_passed v [] e = apart (cc)
 declared_passed v (u ∷ []) e = apart (cc)

@@ -8,7 +8,7 @@ use lib.Seq.{take-take}
 use Rattle.paper.specs.Instruction.{Head, broken, end, comment, operation, token_head, claim, judged}
 use Rattle.paper.specs.declared.Version.{Version}
 use Rattle.paper.specs.declared.Class.{Class}
-use Rattle.paper.specs.declared.Judged.TheVariants.{Good}
+use Rattle.paper.specs.Judgements.{good_instruction}
 use Rattle.paper.proofs.OwnTokens.{good_claim}
 use Rattle.records.specs.Record.{record_on, record_of}
 
@@ -19,7 +19,7 @@ own_by first rest size end k = refl
 own_by first rest size (comment n) k = refl
 own_by first rest size (operation row n) k = rw (take-take n size rest (omega arith))
 
-pub record_own : (v : Version) (tokens : List ℕ) {size : ℕ} {class : Class} → judged v tokens ≡ Good size class → record_of v (take (suc size) tokens) ≡ record_of v tokens
+pub record_own : (v : Version) (tokens : List ℕ) {size : ℕ} {class : Class} → judged v tokens ≡ good_instruction size class → record_of v (take (suc size) tokens) ≡ record_of v tokens
 unfolding judged record_of
 record_own v [] j = refl
 record_own v (first ∷ rest) {size} {class} j = own_by first rest size (token_head v first) (good_claim size class v first rest j).claims

@@ -15,7 +15,7 @@ use Rattle.paper.specs.declared.Single.TheVariants.{Comment}
 use Rattle.paper.specs.declared.Closer.TheVariants.{End}
 use Rattle.paper.specs.declared.Class.{Class}
 use Rattle.paper.specs.declared.Class.TheVariants.{One, Closes}
-use Rattle.paper.specs.declared.Judged.TheVariants.{Good}
+use Rattle.paper.specs.Judgements.{good_instruction}
 use Rattle.paper.proofs.Bools.{apart}
 use Rattle.paper.proofs.FirstToken.{Says, is_broken, is_comment_lem, is_end_lem, is_listed, says}
 use Rattle.paper.proofs.OwnTokens.{operands_good, good_claim}
@@ -42,7 +42,7 @@ module _ (v : Version) (first : ℕ) (rest : List ℕ) (size : ℕ) (class : Cla
     pub is : record_on h first rest ≡ record_by (class_number class) v first (take size rest)
     pub readable : Readable (row_by (class_number class) v first) (take size rest)
 
-  by_head_lem : (h : Head) → Says v first h → claim h ≡ size → on_claimed v h (opcode_of first) (take size rest) ≡ Good size class → Read h
+  by_head_lem : (h : Head) → Says v first h → claim h ≡ size → on_claimed v h (opcode_of first) (take size rest) ≡ good_instruction size class → Read h
   unfolding ordered width_of
   by_head_lem h (is_broken b) k g = apart (cc)
   by_head_lem h (is_comment_lem o l) k g =
@@ -62,7 +62,7 @@ module _ (v : Version) (first : ℕ) (rest : List ℕ) (size : ℕ) (class : Cla
             (record { there = omega arith; few = row_few v first places e l });
       }
 
-  pub good_read_lem : judged v (first ∷ rest) ≡ Good size class → Read (token_head v first)
+  pub good_read_lem : judged v (first ∷ rest) ≡ good_instruction size class → Read (token_head v first)
   good_read_lem j =
       let g = good_claim size class v first rest j in
       by_head_lem (token_head v first) (says v first) g.claims g.good

@@ -15,7 +15,7 @@ use Rattle.paper.specs.Instruction.{operands, operands_of}
 use Rattle.paper.specs.Versions.{has_predicates}
 use Rattle.paper.specs.Places.{listed, entry_of, Place, is_predicate}
 use Rattle.paper.specs.declared.Version.{Version}
-use Rattle.paper.specs.declared.Operands.TheVariants.{Fit}
+use Rattle.paper.specs.Judgements.{good_operands}
 use Rattle.paper.proofs.Bools.{never, both_left, both_right}
 use Rattle.paper.proofs.DclRow.{declared_row, declared_entry}
 use Rattle.shapes.proofs.Shapes.{few, unpredicated}
@@ -54,12 +54,12 @@ module _ (v : Version) (token : ℕ) (places : List Place) (e : entry_of v (opco
   pub row_few : ordered (with_predicate (is_predicated token) places) ≤ predicate_slot
   row_few = omega (arith, ordered_predicated (is_predicated token) places, few v (opcode_of token) places e)
 
-  pub row_passed : (behind : List ℕ) → operands_of v (opcode_of token) (with_predicate (is_predicated token) places) behind ≡ Fit →
+  pub row_passed : (behind : List ℕ) → operands_of v (opcode_of token) (with_predicate (is_predicated token) places) behind ≡ good_operands →
       AllPassed v (with_predicate (is_predicated token) places) behind
   row_passed behind f = by (eqb (opcode_of token) DCL) refl f
     where
       by : (is_dcl : Bool) → eqb (opcode_of token) DCL ≡ is_dcl →
-          pick is_dcl (declaration v behind) (operands v (with_predicate (is_predicated token) places) 1 behind) ≡ Fit →
+          pick is_dcl (declaration v behind) (operands v (with_predicate (is_predicated token) places) 1 behind) ≡ good_operands →
           AllPassed v (with_predicate (is_predicated token) places) behind
       by true d g = rw (dcl_row (eqb-true _ _ d)) (declared_passed v behind g)
       by false d g = all_passed v (with_predicate (is_predicated token) places) 1 behind g

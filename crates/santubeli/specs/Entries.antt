@@ -1,8 +1,7 @@
 -- The answers as C structs: the numbers and values of what is told.
-use Rattle.std.specs.Prelude.{ℕ}
+use Rattle.std.specs.Prelude.{ℕ, Ok, Err}
 use Rattle.paper.specs.Numbers.{number_of}
-use Rattle.paper.specs.declared.Verdict.{Verdict}
-use Rattle.paper.specs.declared.Verdict.TheVariants.{Accepted, Refused}
+use Rattle.paper.specs.Judgements.{Verdict}
 use Rattle.records.specs.declared.Record.{Record}
 use Rattle.reader.specs.declared.Answer.{Answer as Answered}
 use Rattle.reader.specs.declared.Answer.TheVariants.{Got, Refused as Unread}
@@ -20,8 +19,8 @@ use Rattle.santubeli.specs.declared.ReadAnswer.{ReadAnswer}
 
 -- a yes gives the stream's tokens and its instructions, a refusal neither
 abbrev pub answer_of : ℕ → Verdict → Answer
-answer_of tokens (Accepted n) = record { number = 0; position = 0; detail = 0; tokens = tokens; instructions = n }
-answer_of tokens (Refused r) = record { number = number_of r.reason; position = r.position; detail = r.detail; tokens = 0; instructions = 0 }
+answer_of tokens (Ok n) = record { number = 0; position = 0; detail = 0; tokens = tokens; instructions = n }
+answer_of tokens (Err r) = record { number = number_of r.reason; position = r.position; detail = r.detail; tokens = 0; instructions = 0 }
 
 -- a reading: the next place and the record of a yes; a refusal's record is all zero and its next place 0
 abbrev pub read_answer : Answered → Record → ReadAnswer

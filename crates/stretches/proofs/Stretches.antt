@@ -17,13 +17,10 @@ use Rattle.paper.specs.Instruction.{Head, broken, end, comment, operation, token
 use Rattle.paper.specs.declared.Version.{Version}
 use Rattle.paper.specs.declared.Refusal.{Refusal}
 use Rattle.paper.specs.declared.Reason.TheVariants.{RunOut as RUN_OUT}
-use Rattle.paper.specs.declared.Operands.{Operands}
-use Rattle.paper.specs.declared.Operands.TheVariants.{Fit, Refused as unfit}
+use Rattle.paper.specs.Judgements.{Operands, good_operands, bad_operands, Judged, good_instruction, bad_instruction}
 use Rattle.paper.specs.declared.Class.{Class}
 use Rattle.paper.specs.declared.Class.TheVariants.{One}
 use Rattle.paper.specs.declared.Single.TheVariants.{Comment, Plain}
-use Rattle.paper.specs.declared.Judged.{Judged}
-use Rattle.paper.specs.declared.Judged.TheVariants.{Good, Refused as Unfit}
 use Rattle.shapes.proofs.Shapes.{class_few}
 use Rattle.told.specs.Numbered.{refusal_number, judged_number, judged_from, is_plain, size_in}
 use Rattle.stretches.specs.declared.Stretch.{Stretch}
@@ -38,13 +35,13 @@ odd_plain r h = let e : refusal_number r % 32 ≡ 2 = eqb-true (refusal_number r
 
 module _ (v : Version) (first : ℕ) (behind : List ℕ) (left : ℕ) where
   on_operands_lem : (o : Operands) (size : ℕ) (class : Class) (fits : Bool) → leb size (length behind) ≡ fits →
-      is_plain (judged_number (pick fits (on_operands o size class) (Unfit (refusal RUN_OUT 0)))) ≡ true →
-      size_in (judged_number (pick fits (on_operands o size class) (Unfit (refusal RUN_OUT 0)))) ≤ length behind
-  on_operands_lem Fit size class true e h = let few = class_few class in omega (arith, leb-true size (length behind) e)
-  on_operands_lem (unfit r) size class true e h = absurd (odd_plain r h)
+      is_plain (judged_number (pick fits (on_operands o size class) (bad_instruction (refusal RUN_OUT 0)))) ≡ true →
+      size_in (judged_number (pick fits (on_operands o size class) (bad_instruction (refusal RUN_OUT 0)))) ≤ length behind
+  on_operands_lem good_operands size class true e h = let few = class_few class in omega (arith, leb-true size (length behind) e)
+  on_operands_lem (bad_operands r) size class true e h = absurd (odd_plain r h)
   on_operands_lem o size class false e h = absurd (odd_plain (refusal RUN_OUT 0) h)
 
-  on_comment_lem : (n : ℕ) (fits : Bool) → is_plain (judged_number (pick fits (Good n (One Comment)) (Unfit (refusal RUN_OUT 0)))) ≡ true → ⊥
+  on_comment_lem : (n : ℕ) (fits : Bool) → is_plain (judged_number (pick fits (good_instruction n (One Comment)) (bad_instruction (refusal RUN_OUT 0)))) ≡ true → ⊥
   on_comment_lem n true h = let e : 32 * n % 32 ≡ 2 = eqb-true (32 * n % 32) 2 (rw (add-zero (32 * n)) at h) in omega arith
   on_comment_lem n false h = odd_plain (refusal RUN_OUT 0) h
 
@@ -176,7 +173,7 @@ module _ (v : Version) (s : List ℕ) where
         (ap (take 15) (part_rest ∙ take_all (n - (at + 1)) (drop (start + at + 1) s) (omega (arith, length-drop (start + at + 1) s))))
 
 -- a plain instruction, told back
-pub plain_from : (told : ℕ) → is_plain told ≡ true → judged_from told ≡ Good (size_in told) (One Plain)
+pub plain_from : (told : ℕ) → is_plain told ≡ true → judged_from told ≡ good_instruction (size_in told) (One Plain)
 unfolding judged_from
 plain_from told p =
     let kind : told % 32 ≡ 2 = eqb-true (told % 32) 2 p in
@@ -185,9 +182,9 @@ plain_from told p =
     let plainly : told / 2 % 16 ≡ 1 = rw halved (omega arith) in
     rw (even, plainly) refl
 
-pub plain_judged : (j : Judged) (told : ℕ) → told ≡ judged_number j → is_plain told ≡ true → j ≡ Good (size_in told) (One Plain)
-plain_judged (Good size class) told e p = sym (ap judged_from e ∙ good_back size class) ∙ plain_from told p
-plain_judged (Unfit r) told e p = absurd (odd_plain r (sym (ap is_plain e) ∙ p))
+pub plain_judged : (j : Judged) (told : ℕ) → told ≡ judged_number j → is_plain told ≡ true → j ≡ good_instruction (size_in told) (One Plain)
+plain_judged (good_instruction size class) told e p = sym (ap judged_from e ∙ good_back size class) ∙ plain_from told p
+plain_judged (bad_instruction r) told e p = absurd (odd_plain r (sym (ap is_plain e) ∙ p))
 
 -- a stretch has one answer
 module _ (v : Version) (tokens : List ℕ) (beyond stop start : ℕ) where

@@ -12,10 +12,7 @@ use Rattle.paper.specs.declared.Closer.TheVariants.{Else, EndIf, EndLoop, EndRep
 use Rattle.paper.specs.declared.Refusal.{Refusal}
 use Rattle.paper.specs.declared.Class.{Class}
 use Rattle.paper.specs.declared.Class.TheVariants.{One, Opens, Closes}
-use Rattle.paper.specs.declared.Taken.{Taken}
-use Rattle.paper.specs.declared.Taken.TheVariants.{Took, Refused as not_taken}
-use Rattle.paper.specs.declared.Judged.{Judged}
-use Rattle.paper.specs.declared.Judged.TheVariants.{Good, Refused}
+use Rattle.paper.specs.Judgements.{Taken, operand_taken, operand_refused, Judged, good_instruction, bad_instruction}
 use Rattle.shapes.specs.Classes.{class_number}
 use Rattle.shapes.proofs.Shapes.{class_few}
 use Rattle.told.specs.Numbered.{yes_number, refusal_number, judged_number, taken_number, is_refusal, taken_in, size_in, kind_in, tells_phase, number_in, bit_in, position_in, class_by, judged_from}
@@ -38,16 +35,16 @@ class_back (Closes End) = refl
 
 -- the fields of a yes, and of a refusal
 module _ (size : ℕ) (class : Class) where
-  pub yes_even : is_refusal (judged_number (Good size class)) ≡ false
+  pub yes_even : is_refusal (judged_number (good_instruction size class)) ≡ false
   yes_even = let even : (32 * size + 2 * class_number class) % 2 ≡ 0 = omega arith in rw even
 
   pub yes_fits : size < 2 ^ 32 → yes_number size (class_number class) % 2 ^ 64 ≡ yes_number size (class_number class)
   yes_fits h = mod-eq_of_lt (omega (arith, class_few class))
 
-  pub yes_size : size_in (judged_number (Good size class)) ≡ size
+  pub yes_size : size_in (judged_number (good_instruction size class)) ≡ size
   yes_size = let few = class_few class in omega arith
 
-  pub yes_class : kind_in (judged_number (Good size class)) ≡ class_number class
+  pub yes_class : kind_in (judged_number (good_instruction size class)) ≡ class_number class
   yes_class =
       let few = class_few class in
       let halved : (32 * size + 2 * class_number class) / 2 ≡ 16 * size + class_number class = omega arith in
@@ -79,14 +76,14 @@ module _ (r : Refusal) (bit : ToldBit r) where
       let number : number_in told ≡ number_of r.reason = rw halved (omega (arith, number_few r.reason)) in
       rw number (reason_back r.reason)
 
-pub good_back : (size : ℕ) (class : Class) → judged_from (judged_number (Good size class)) ≡ Good size class
+pub good_back : (size : ℕ) (class : Class) → judged_from (judged_number (good_instruction size class)) ≡ good_instruction size class
 unfolding judged_from
 good_back size class = rw (yes_even size class, yes_size size class, yes_class size class, class_back class)
 
 pub judged_back : (n : ℕ) (j : Judged) → Within ToldBit n j → judged_from (judged_number j) ≡ j
 unfolding judged_from
-judged_back n (Good size class) h = good_back size class
-judged_back n (Refused r) bit = rw (refusal_odd r, refusal_position r bit, refusal_bit r bit, refusal_reason r bit)
+judged_back n (good_instruction size class) h = good_back size class
+judged_back n (bad_instruction r) bit = rw (refusal_odd r, refusal_position r bit, refusal_bit r bit, refusal_reason r bit)
 
 -- a PHASE is seen from what is told of it
 class_phase_lem : (c : Class) → eqb (2 * class_number c) 26 ≡ class_phase c
@@ -106,16 +103,16 @@ class_phase_lem (Closes EndRep) = refl
 class_phase_lem (Closes End) = refl
 
 pub phase_told : (j : Judged) (p : ℕ) (rest : ℕ → Cut) → tells_phase (judged_number j) ≡ begins_phase (cut_one j p rest)
-phase_told (Good size class) p rest =
+phase_told (good_instruction size class) p rest =
     let low : (32 * size + 2 * class_number class) % 32 ≡ 2 * class_number class = omega (arith, class_few class) in
     rw low (class_phase_lem class)
-phase_told (Refused r) p rest = ne_eqb (refusal_number r % 32) 26 (λ e. omega arith)
+phase_told (bad_instruction r) p rest = ne_eqb (refusal_number r % 32) 26 (λ e. omega arith)
 
 -- an even number tells how many tokens an operand takes, an odd one its refusal
-pub taken_even : (t : Taken) (n : ℕ) → n ≡ taken_number t → is_refusal n ≡ false → t ≡ Took (taken_in n)
-taken_even (Took m) n e even = ap Took (omega arith)
-taken_even (not_taken r) n e even = absurd (omega (arith, eqb-false (n % 2) 1 even))
+pub taken_even : (t : Taken) (n : ℕ) → n ≡ taken_number t → is_refusal n ≡ false → t ≡ operand_taken (taken_in n)
+taken_even (operand_taken m) n e even = ap operand_taken (omega arith)
+taken_even (operand_refused r) n e even = absurd (omega (arith, eqb-false (n % 2) 1 even))
 
-pub taken_odd : (t : Taken) (n : ℕ) → n ≡ taken_number t → is_refusal n ≡ true → (r : Refusal) × (t ≡ not_taken r) × (n ≡ refusal_number r)
-taken_odd (Took m) n e odd = absurd (omega (arith, eqb-true (n % 2) 1 odd))
-taken_odd (not_taken r) n e odd = (r, refl, e)
+pub taken_odd : (t : Taken) (n : ℕ) → n ≡ taken_number t → is_refusal n ≡ true → (r : Refusal) × (t ≡ operand_refused r) × (n ≡ refusal_number r)
+taken_odd (operand_taken m) n e odd = absurd (omega (arith, eqb-true (n % 2) 1 odd))
+taken_odd (operand_refused r) n e odd = (r, refl, e)

@@ -9,12 +9,7 @@ use Rattle.paper.specs.declared.Opener.TheVariants.{If, Loop, Rep}
 use Rattle.paper.specs.declared.Closer.TheVariants.{Else, EndIf, EndLoop, EndRep, End}
 use Rattle.paper.specs.declared.Class.{Class}
 use Rattle.paper.specs.declared.Class.TheVariants.{One, Opens, Closes}
-use Rattle.paper.specs.declared.Taken.{Taken}
-use Rattle.paper.specs.declared.Taken.TheVariants.{Took, Refused as not_taken}
-use Rattle.paper.specs.declared.Operands.{Operands}
-use Rattle.paper.specs.declared.Operands.TheVariants.{Fit, Refused as unfit}
-use Rattle.paper.specs.declared.Judged.{Judged}
-use Rattle.paper.specs.declared.Judged.TheVariants.{Good, Refused}
+use Rattle.paper.specs.Judgements.{Taken, operand_taken, operand_refused, Operands, good_operands, bad_operands, Judged, good_instruction, bad_instruction}
 
 -- a yes: the tokens that an instruction takes behind its first one, and the number of its class
 abbrev pub yes_number : ℕ → ℕ → ℕ
@@ -28,20 +23,20 @@ abbrev pub refusal_number : Refusal → ℕ
 refusal_number r = fault_number (fault_of r.reason r.detail) r.position
 
 abbrev pub judged_number : Judged → ℕ
-judged_number (Good size class) = yes_number size (class_number class)
-judged_number (Refused r) = refusal_number r
+judged_number (good_instruction size class) = yes_number size (class_number class)
+judged_number (bad_instruction r) = refusal_number r
 
 -- an operand that takes so many tokens; operands that fit
 abbrev pub took_number : ℕ → ℕ
 took_number n = 2 * n
 
 abbrev pub taken_number : Taken → ℕ
-taken_number (Took n) = took_number n
-taken_number (not_taken r) = refusal_number r
+taken_number (operand_taken n) = took_number n
+taken_number (operand_refused r) = refusal_number r
 
 abbrev pub operands_number : Operands → ℕ
-operands_number Fit = 0
-operands_number (unfit r) = refusal_number r
+operands_number good_operands = 0
+operands_number (bad_operands r) = refusal_number r
 
 -- back from the number: whether it is a refusal's; the tokens that an operand takes; of a yes the size and the number of the class, whether it
 -- is a plain instruction's, which has class 1, and whether a PHASE's, which has class 13
@@ -92,4 +87,4 @@ class_by n =
 
 unfoldable pub judged_from : ℕ → Judged
 judged_from n =
-    pick (is_refusal n) (Refused (refusal_at_bit (reason_by (number_in n)) (position_in n) (bit_in n))) (Good (size_in n) (class_by (kind_in n)))
+    pick (is_refusal n) (bad_instruction (refusal_at_bit (reason_by (number_in n)) (position_in n) (bit_in n))) (good_instruction (size_in n) (class_by (kind_in n)))

@@ -2,10 +2,11 @@
 #![tactic(auto)]
 
 ghost use Rattle.std.specs.Prelude.{◌≡◌, ◌%◌, ◌^◌};
+ghost use Rattle.paper.specs.Judgements.{as_judged};
 ghost use Rattle.paper.specs.Numbers.{number_of, reason_by, refusal, told_instruction};
 ghost use Rattle.told.specs.Numbered.{yes_number, fault_number, refusal_number, is_refusal, taken_in, size_in, kind_in, is_plain, tells_phase, number_in, bit_in, position_in, class_by, judged_from};
 
-use paper::{Class, Closer, Judged, Opener, Reason, Refusal, Single};
+use paper::{Class, Closer, Instruction, Opener, Reason, Refusal, Single};
 
 // Behind the lowest bit of a yes stands the class, and above it the size.
 const HALF: u64 = 2;
@@ -168,21 +169,19 @@ pub fn position_of(told: u64) -> usize
     (told / PLACED) as usize
 }
 
-// What such a number tells.
-pub fn judged_of(told: u64) -> Judged
-    ensures { told_instruction result ≡ told_instruction (judged_from told) }
+// What such a number tells: the instruction, or why there is none.
+pub fn judged_of(told: u64) -> Result<Instruction, Refusal>
+    ensures { told_instruction (as_judged result) ≡ told_instruction (judged_from told) }
 {
     if is_refused(told) {
-        let reason = reason_by(told / HALF % NUMBERS);
-        let detail = bit_of(told);
-        let position = position_of(told);
-        return Judged::Refused(Refusal {
-            reason,
-            position,
-            detail,
+        return Err(Refusal {
+            reason: reason_by(told / HALF % NUMBERS),
+            position: position_of(told),
+            detail: bit_of(told),
         });
     }
-    let class = class_by(told / HALF % KINDS);
-    let size = size_of(told);
-    Judged::Good(size, class)
+    Ok(Instruction {
+        size: size_of(told),
+        class: class_by(told / HALF % KINDS),
+    })
 }

@@ -11,27 +11,27 @@ ghost use Rattle.versions.specs.Sets.{set_of, holds};
 ghost use Rattle.versions.specs.Rows.{form_of, rank, row_number, Tells};
 ghost use Rattle.versions.specs.Names.{Names};
 
-use paper::{Named, Version};
+use paper::Version;
 
 // The version whose first token this is.
-fn found_by(token: u32) -> Named
+fn found_by(token: u32) -> Option<Version>
     ensures { Names result token }
 {
     match token {
-        0xFFFE_0200 => Named::Known(Version::V2),
-        0xFFFE_0300 => Named::Known(Version::V3),
-        0xFFFF_0200 => Named::Known(Version::P2),
-        0xFFFF_0300 => Named::Known(Version::P3),
-        0xFFFE_0101 => Named::Known(Version::V1),
-        0xFFFF_0101 => Named::Known(Version::P11),
-        0xFFFF_0102 => Named::Known(Version::P12),
-        0xFFFF_0103 => Named::Known(Version::P13),
-        0xFFFF_0104 => Named::Known(Version::P14),
-        _ => Named::Unknown,
+        0xFFFE_0200 => Some(Version::V2),
+        0xFFFE_0300 => Some(Version::V3),
+        0xFFFF_0200 => Some(Version::P2),
+        0xFFFF_0300 => Some(Version::P3),
+        0xFFFE_0101 => Some(Version::V1),
+        0xFFFF_0101 => Some(Version::P11),
+        0xFFFF_0102 => Some(Version::P12),
+        0xFFFF_0103 => Some(Version::P13),
+        0xFFFF_0104 => Some(Version::P14),
+        _ => None,
     }
 }
 
-pub fn version_of(token: u32) -> Named
+pub fn version_of(token: u32) -> Option<Version>
     ensures { told_named result ≡ told_named (named token) }
 {
     found_by(token)

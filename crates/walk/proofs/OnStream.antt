@@ -1,4 +1,5 @@
 -- The step at a position of a stream is the walk's.
+use Rattle.std.specs.Prelude.{Ok, Err}
 use Rattle.std.proofs.Common.{◌≡◌, ℕ, suc, ◌+◌, ◌-◌, ◌^◌, ◌<◌, ◌≤◌, Bool, true, false, ◌||◌, ltb, List, length, drop, sym, refl, ap, ◌∙◌, subst, add-zero, mod-eq_of_lt, arith, length-drop, ltb-false, ltb-true}
 use Rattle.paper.specs.Notation.{pick}
 use Rattle.paper.specs.Numbers.{refusal, moved_by}
@@ -13,9 +14,7 @@ use Rattle.paper.specs.declared.Class.TheVariants.{One, Opens, Closes}
 use Rattle.paper.specs.declared.Single.TheVariants.{Comment, Plain, Break, Label, Return, Phase}
 use Rattle.paper.specs.declared.Closer.TheVariants.{Else, EndIf, EndLoop, EndRep, End}
 use Rattle.paper.specs.declared.Reason.TheVariants.{RunOut as RUN_OUT, Tail as TAIL}
-use Rattle.paper.specs.declared.Judged.{Judged}
-use Rattle.paper.specs.declared.Judged.TheVariants.{Good, Refused as unfit}
-use Rattle.paper.specs.declared.Verdict.TheVariants.{Accepted, Refused as no_verdict}
+use Rattle.paper.specs.Judgements.{Judged, good_instruction, bad_instruction}
 use Rattle.paper.proofs.Bools.{or_false}
 use Rattle.paper.proofs.OwnTokens.{good_inside}
 use Rattle.paper.proofs.OneInstruction.{judged_near}
@@ -72,7 +71,7 @@ module _ (v : Version) (s : List ℕ) (state : State) (h : Stands v s state) whe
   stands_verdict = walked_nesting v s ∙ reached h.reaches (count_of (cut_from v s 1))
 
   -- "no token where an instruction must start" is RUN-OUT at the token count
-  pub stands_out : length s ≤ state.at → no_verdict (refusal RUN_OUT (length s)) ≡ walked v s
+  pub stands_out : length s ≤ state.at → Err (refusal RUN_OUT (length s)) ≡ walked v s
   unfolding nesting
   stands_out le =
       let at : state.at ≡ length s = omega (arith, h.within) in
@@ -80,18 +79,18 @@ module _ (v : Version) (s : List ℕ) (state : State) (h : Stands v s state) whe
 
 -- behind the END that finishes the stream: nothing follows, or TAIL
 module _ (v : Version) (s : List ℕ) (p count : ℕ) (counted : count_of (cut_from v s 1) ≡ count + count_of (cut_from v s p)) where
-  tail_cut : (x : Judged) → no_verdict (refusal TAIL p) ≡ at_end (count_of (cut_from v s 1)) (cut_one x p (λ n. cut_from v s (p + n)))
-  tail_cut (Good size class) = refl
-  tail_cut (unfit r) = refl
+  tail_cut : (x : Judged) → Err (refusal TAIL p) ≡ at_end (count_of (cut_from v s 1)) (cut_one x p (λ n. cut_from v s (p + n)))
+  tail_cut (good_instruction size class) = refl
+  tail_cut (bad_instruction r) = refl
 
   at_end_lem : (b : Bool) → ltb p (length s) ≡ b →
-      pick b (no_verdict (refusal TAIL p)) (Accepted count) ≡ at_end (count_of (cut_from v s 1)) (cut_from v s p)
+      pick b (Err (refusal TAIL p)) (Ok count) ≡ at_end (count_of (cut_from v s 1)) (cut_from v s p)
   unfolding count_of
   at_end_lem true e = rw (cut_at v s p (ltb-true p (length s) e)) (tail_cut (judged v (drop p s)))
   at_end_lem false e =
       let none = cut_none v s p (ltb-false p (length s) e) in
       let total : count_of (cut_from v s 1) ≡ count = rw (none, add-zero count) at counted in
-      rw none (ap Accepted (sym total))
+      rw none (ap Ok (sym total))
 
 -- where a step comes to
 
@@ -100,7 +99,7 @@ state_at at counted kinds phased = record { at = at; count = counted; kinds = ki
 
 module _ (v : Version) (s : List ℕ) (state : State) (h : Stands v s state) (lt : state.at < length s) (fits : length s < 2 ^ 64) where
   -- a good instruction and the state behind it
-  module _ (size : ℕ) (class : Class) (e : judged v (drop state.at s) ≡ Good size class) where
+  module _ (size : ℕ) (class : Class) (e : judged v (drop state.at s) ≡ good_instruction size class) where
     cut_good : cut_from v s state.at ≡ then class state.at (cut_from v s (state.at + suc size))
     cut_good = cut_at v s state.at lt ∙ rw e
 
@@ -149,15 +148,15 @@ module _ (v : Version) (s : List ℕ) (state : State) (h : Stands v s state) (lt
         ∙ sym (stands_verdict v s state h ∙ rw (cut_good, f)))
 
   -- a plain instruction leaves the blocks and the mark as they are
-  pub stands_plain : (size : ℕ) → judged v (drop state.at s) ≡ Good size (One Plain) →
+  pub stands_plain : (size : ℕ) → judged v (drop state.at s) ≡ good_instruction size (One Plain) →
       Stands v s (state_at (state.at + suc size) (suc state.count) state.kinds state.phased)
   stands_plain size e =
       rw (or_false state.phased, ← h.numbered) at (stands_behind size (One Plain) e (marked false h.carries) refl)
 
   comes_judged : (x : Judged) → judged v (drop state.at s) ≡ x → Comes v s (state.at + 1) (on_judged x state)
   unfolding nesting
-  comes_judged (Good size class) e = rw (next_said v s state h class) (comes_next size class e (step h.carries class) refl)
-  comes_judged (unfit q) e =
+  comes_judged (good_instruction size class) e = rw (next_said v s state h class) (comes_next size class e (step h.carries class) refl)
+  comes_judged (bad_instruction q) e =
       let near : q.position ≤ length (drop state.at s) - 1 = rw e at (judged_near v (drop state.at s)) in
       let at : wrapped (state.at + q.position) ≡ state.at + q.position = mod-eq_of_lt (omega (arith, near, length-drop state.at s)) in
       let cut : cut_from v s state.at ≡ wrong state.at (moved_by (λ p. state.at + p) q) = cut_at v s state.at lt ∙ rw e in

@@ -4,7 +4,7 @@ use Rattle.paper.specs.Instruction.{judged}
 use Rattle.paper.specs.declared.Version.{Version}
 use Rattle.paper.specs.declared.Class.TheVariants.{One}
 use Rattle.paper.specs.declared.Single.TheVariants.{Plain}
-use Rattle.paper.specs.declared.Judged.TheVariants.{Good}
+use Rattle.paper.specs.Judgements.{good_instruction}
 use Rattle.told.specs.Numbered.{size_in, judged_number, judged_from}
 use Rattle.stretches.specs.Stretch.{told_at, PlainTo, here, past, Stretched}
 use Rattle.stretches.specs.declared.Stretch.{Stretch}
@@ -76,7 +76,7 @@ module _ (v : Version) (s : List ℕ) (fits : length s < 2 ^ 64) where
 
   -- a plain instruction further
   plain_stands : (state : State) (k n : ℕ) → Stands v s (further state k n) → state.at + k < length s → (size : ℕ) →
-      judged v (drop (state.at + k) s) ≡ Good size (One Plain) → Stands v s (further state (k + suc size) (suc n))
+      judged v (drop (state.at + k) s) ≡ good_instruction size (One Plain) → Stands v s (further state (k + suc size) (suc n))
   plain_stands state k n stands inside size good =
       let place : state.at + k + suc size ≡ state.at + (k + suc size) = omega arith in
       let more : suc (state.count + n) ≡ state.count + suc n = omega arith in

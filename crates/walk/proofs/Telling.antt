@@ -2,7 +2,7 @@
 use Rattle.std.proofs.Common.{◌≡◌, ℕ, ◌+◌, ◌<◌, ◌≤◌, List, length, take, drop, ap, ◌∙◌}
 use Rattle.paper.specs.Instruction.{judged}
 use Rattle.paper.specs.declared.Version.{Version}
-use Rattle.paper.specs.declared.Judged.{Judged}
+use Rattle.paper.specs.Judgements.{Judged}
 use Rattle.paper.proofs.OneInstruction.{judged_bit}
 use Rattle.told.specs.Numbered.{judged_number, judged_from}
 use Rattle.stretches.specs.Stretch.{told_at}

@@ -1,6 +1,6 @@
 -- One step of the walk: a stretch of plain instructions is passed, the instruction at its end is judged, and the state moves behind it.
 -- Document 01, "The numbers given back": RUN-OUT, the operands, then BLOCK and DEPTH.
-use Rattle.std.specs.Prelude.{◌≡◌, ℕ, ◌+◌, ◌-◌, ◌%◌, ◌^◌, Bool, true, false, ◌&&◌, ◌||◌, List, nat_lt}
+use Rattle.std.specs.Prelude.{◌≡◌, ℕ, ◌+◌, ◌-◌, ◌%◌, ◌^◌, Bool, true, false, ◌&&◌, ◌||◌, List, nat_lt, Ok, Err}
 use Rattle.paper.specs.Notation.{pick}
 use Rattle.paper.specs.Numbers.{number_of, refusal, moved_by}
 use Rattle.paper.specs.Blocks.{class_phase}
@@ -8,10 +8,7 @@ use Rattle.paper.specs.Walk.{counts}
 use Rattle.paper.specs.declared.Version.{Version}
 use Rattle.paper.specs.declared.Class.{Class}
 use Rattle.paper.specs.declared.Reason.TheVariants.{RunOut as RUN_OUT, Tail as TAIL}
-use Rattle.paper.specs.declared.Judged.{Judged}
-use Rattle.paper.specs.declared.Judged.TheVariants.{Good, Refused as unfit}
-use Rattle.paper.specs.declared.Verdict.{Verdict}
-use Rattle.paper.specs.declared.Verdict.TheVariants.{Accepted, Refused as no_verdict}
+use Rattle.paper.specs.Judgements.{Judged, good_instruction, bad_instruction, Verdict}
 use Rattle.told.specs.Numbered.{judged_from}
 use Rattle.stretches.specs.Stretch.{Stretched}
 use Rattle.stretches.specs.declared.Stretch.{Stretch}
@@ -65,8 +62,8 @@ on_next_by (Bad reason) state size class = step_of (Refused (refusal reason stat
 on_next_by Finish state size class = step_of Done (behind_of state size class state.kinds)
 
 abbrev pub on_judged : Judged → State → Step
-on_judged (Good size class) state = on_next_by (next_by state.kinds state.phased class) state size class
-on_judged (unfit r) state = step_of (Refused (moved_by (λ p. wrapped (state.at + p)) r)) state
+on_judged (good_instruction size class) state = on_next_by (next_by state.kinds state.phased class) state size class
+on_judged (bad_instruction r) state = step_of (Refused (moved_by (λ p. wrapped (state.at + p)) r)) state
 
 -- what is told of a step: the number of a refusal, or 0, its position and its detail; 1 where an END finishes the stream; the state
 pub record ToldStep : Type 0 where
@@ -102,13 +99,13 @@ goes_on step until = is_on step.answer && nat_lt step.state.at until
 
 -- behind the END that finishes a stream of so many tokens: "tokens after END" are TAIL
 abbrev pub end_of : State → ℕ → Verdict
-end_of state tokens = pick (nat_lt state.at tokens) (no_verdict (refusal TAIL state.at)) (Accepted state.count)
+end_of state tokens = pick (nat_lt state.at tokens) (Err (refusal TAIL state.at)) (Ok state.count)
 
 -- the verdict behind the last step; where the walk would go on no token is left, which is RUN-OUT at the token count
 abbrev pub verdict_by : Move → State → ℕ → Verdict
-verdict_by On state tokens = no_verdict (refusal RUN_OUT tokens)
+verdict_by On state tokens = Err (refusal RUN_OUT tokens)
 verdict_by Done state tokens = end_of state tokens
-verdict_by (Refused r) state tokens = no_verdict r
+verdict_by (Refused r) state tokens = Err r
 
 abbrev pub verdict_of : Step → ℕ → Verdict
 verdict_of step tokens = verdict_by step.answer step.state tokens

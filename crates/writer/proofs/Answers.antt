@@ -1,4 +1,5 @@
 -- The answers that the code decides, one by one: what shows RECORD, ROOM and a yes, and what the buffer then holds.
+use Rattle.std.specs.Prelude.{Some}
 use mathlib.Core.Path.{◌≡◌, refl, ap, ◌∙◌}
 use mathlib.Core.Bool.{Bool, true, false}
 use mathlib.Core.List.{List, [], ◌∷◌}
@@ -11,7 +12,6 @@ use Rattle.paper.specs.Notation.{pick}
 use Rattle.paper.specs.Versions.{version_token, versions, named_among, named}
 use Rattle.paper.specs.InstructionToken.{comment_opcode}
 use Rattle.paper.specs.declared.Version.{Version}
-use Rattle.paper.specs.declared.Named.TheVariants.{Known}
 use Rattle.paper.specs.declared.Reason.TheVariants.{Room as ROOM, Record as RECORD}
 use Rattle.records.specs.declared.Record.{Record}
 use Rattle.record_tokens.specs.Tokens.{comment_token, tokens_of}
@@ -20,16 +20,16 @@ use Rattle.writer.specs.Buffer.{pasted}
 use Rattle.writer.specs.Decided.{yielded_comment, reads_back, writable, writing_in, content_in}
 
 -- the version that a token names
-named_among_lem : (vs : List Version) (token : ℕ) (v : Version) → named_among vs token ≡ Known v → token ≡ version_token v
+named_among_lem : (vs : List Version) (token : ℕ) (v : Version) → named_among vs token ≡ Some v → token ≡ version_token v
 named_among_lem [] token v e = apart (cc)
 named_among_lem (w ∷ vs) token v e = by (named_among_lem vs token v) (eqb token (version_token w)) refl e
   where
-    by : (named_among vs token ≡ Known v → token ≡ version_token v) → (b : Bool) → eqb token (version_token w) ≡ b →
-        pick b (Known w) (named_among vs token) ≡ Known v → token ≡ version_token v
+    by : (named_among vs token ≡ Some v → token ≡ version_token v) → (b : Bool) → eqb token (version_token w) ≡ b →
+        pick b (Some w) (named_among vs token) ≡ Some v → token ≡ version_token v
     by later true t h = let same : w ≡ v = cc in eqb-true token (version_token w) t ∙ ap version_token same
     by later false t h = later h
 
-pub version_named : (token : ℕ) (v : Version) → named token ≡ Known v → token ≡ version_token v
+pub version_named : (token : ℕ) (v : Version) → named token ≡ Some v → token ≡ version_token v
 version_named token v e = named_among_lem versions token v e
 
 module _ (v : Version) (r : Record) (body buffer : List ℕ) (at : ℕ) where

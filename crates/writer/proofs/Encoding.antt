@@ -12,8 +12,7 @@ use Rattle.paper.specs.Notation.{pick, bit}
 use Rattle.paper.specs.InstructionToken.{opcode_of, controls_of, is_coissued, comment_opcode, end_opcode, end_token}
 use Rattle.paper.specs.Instruction.{token_head, judged}
 use Rattle.paper.specs.declared.Version.{Version}
-use Rattle.paper.specs.declared.Judged.{Judged}
-use Rattle.paper.specs.declared.Judged.TheVariants.{Good as Lawful, Refused as Unlawful}
+use Rattle.paper.specs.Judgements.{Judged, good_instruction, bad_instruction}
 use Rattle.paper.proofs.Bools.{apart, never, both_left, both_right}
 use Rattle.shapes.specs.Shape.{shape_of}
 use Rattle.shapes.proofs.Shapes.{shape_absent, shape_zero}
@@ -232,7 +231,7 @@ module _ (v : Version) (r : Record) (n : ℕ) where
 
     whole_by : (j : Judged) → judged v (first ∷ words_of behind) ≡ j → is_whole j (suc (length (words_of behind))) ≡ true → length r.operands ≡ operand_count → laid v r ≡ true →
         says ≡ true → r.extent ≡ 0 → length behind ≤ 2 * operand_count → reads_back v r ≡ true
-    whole_by (Lawful size class) j whole six fits f none short =
+    whole_by (good_instruction size class) j whole six fits f none short =
         let size_is : size ≡ length (words_of behind) = omega (arith, eqb-true (size + 1) (suc (length (words_of behind))) whole) in
         let g = both_right (eqb (opcode_of first) r.opcode) _ f in
         let h = both_right (eqb (controls_of first) r.controls) _ g in
@@ -244,8 +243,8 @@ module _ (v : Version) (r : Record) (n : ℕ) where
           coissue = eqb-true (is_coissued first) r.coissue (both_right (eqb (bit 28 first) r.predicated) _ h);
           extent = sym none;
         })
-        short class (j ∙ ap (λ (k : ℕ). Lawful k class) size_is)
-    whole_by (Unlawful x) j whole six fits f none short = never whole
+        short class (j ∙ ap (λ (k : ℕ). good_instruction k class) size_is)
+    whole_by (bad_instruction x) j whole six fits f none short = never whole
 
     pub whole_passes : judged_whole ≡ true → length r.operands ≡ operand_count → laid v r ≡ true → says ≡ true → alone ≡ true → length behind ≤ 2 * operand_count → reads_back v r ≡ true
     whole_passes whole six fits f none short =

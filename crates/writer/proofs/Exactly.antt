@@ -1,4 +1,5 @@
 -- The code decides as document 01 says: what it decides meets the definition, and nothing else does.
+use Rattle.std.specs.Prelude.{Option, Some, None}
 use mathlib.Core.Path.{◌≡◌, refl, sym, ap, ◌∙◌}
 use mathlib.Core.Bool.{Bool, true, false}
 use mathlib.Core.List.{List}
@@ -9,8 +10,6 @@ use lib.ListN.{length}
 use borrow.Author.Tests.{leb-true, leb-false, le-leb, lt-leb}
 use Rattle.paper.specs.Versions.{named}
 use Rattle.paper.specs.declared.Version.{Version}
-use Rattle.paper.specs.declared.Named.{Named}
-use Rattle.paper.specs.declared.Named.TheVariants.{Known, Unknown}
 use Rattle.records.specs.declared.Record.{Record}
 use Rattle.record_tokens.specs.Tokens.{tokens_of}
 use Rattle.writer.specs.declared.Written.TheVariants.{Wrote}
@@ -22,7 +21,7 @@ use Rattle.writer.proofs.Answers.{refused_record, refused_room, yes_written}
 
 module _ (version : ℕ) (r : Record) (body buffer : List ℕ) (at : ℕ) where
   -- what the code decides meets the definition
-  module _ (v : Version) (n : named version ≡ Known v) where
+  module _ (v : Version) (n : named version ≡ Some v) where
     by_tests : (can fits : Bool) → writable v r (length body) ≡ can → leb (at + length (tokens_of v r body)) (length buffer) ≡ fits →
         Writes version r body buffer at (told_writing (writing_in v r body buffer at)) (content_in v r body buffer at)
     by_tests true true w f =
@@ -38,9 +37,9 @@ module _ (version : ℕ) (r : Record) (body buffer : List ℕ) (at : ℕ) where
     pub known_writes : Writes version r body buffer at (told_writing (writing_in v r body buffer at)) (content_in v r body buffer at)
     known_writes = by_tests (writable v r (length body)) (leb (at + length (tokens_of v r body)) (length buffer)) refl refl
 
-  by_name : (n : Named) → named version ≡ n → Writes version r body buffer at (told_writing (writing_on n r body buffer at)) (content_on n r body buffer at)
-  by_name (Known v) n = known_writes v n
-  by_name Unknown n = unnamed n
+  by_name : (n : Option Version) → named version ≡ n → Writes version r body buffer at (told_writing (writing_on n r body buffer at)) (content_on n r body buffer at)
+  by_name (Some v) n = known_writes v n
+  by_name None n = unnamed n
 
   pub decided_writes : Writes version r body buffer at (told_writing (writing version r body buffer at)) (buffer_written version r body buffer at)
   unfolding writing buffer_written
@@ -71,7 +70,7 @@ module _ (version : ℕ) (r : Record) (body buffer : List ℕ) (at : ℕ) where
 -- what a yes says of the version, the record, the body, the buffer and the next place
 pub record SaidYes (version : ℕ) (r : Record) (body buffer : List ℕ) (at next : ℕ) (after : List ℕ) : Type 0 where
   pub v : Version
-  pub is_named_lem : named version ≡ Known v
+  pub is_named_lem : named version ≡ Some v
   pub can : Writable v r body
   pub inside : at + length (tokens_of v r body) ≤ length buffer
   pub next_is : at + length (tokens_of v r body) ≡ next

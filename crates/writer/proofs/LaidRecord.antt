@@ -18,7 +18,7 @@ use Rattle.paper.specs.Places.{absent, listed, entry_of, Place, typed_places}
 use Rattle.paper.specs.declared.Version.{Version}
 use Rattle.paper.specs.declared.Version.TheVariants.{V2, V3, P2, P3, V1, P11, P12, P13, P14}
 use Rattle.paper.specs.declared.Class.{Class}
-use Rattle.paper.specs.declared.Judged.TheVariants.{Good as Lawful}
+use Rattle.paper.specs.Judgements.{good_instruction}
 use Rattle.paper.proofs.Bools.{apart, never, both_right}
 use Rattle.paper.proofs.FirstToken.{Says, is_broken, is_comment_lem, is_end_lem, is_listed, says}
 use Rattle.paper.proofs.OwnTokens.{good_claim}
@@ -86,7 +86,7 @@ module _ (v : Version) (first : ℕ) (places : List Place) (e : entry_of v (opco
 
 -- what is read has such fields
 module _ (v : Version) (first : ℕ) (rest : List ℕ) (words : Words rest) (size : ℕ) (class : Class) where
-  laid_by : (h : Head) → Says v first h → claim h ≡ size → on_claimed v h (opcode_of first) (take size rest) ≡ Lawful size class → laid v (record_on h first rest) ≡ true
+  laid_by : (h : Head) → Says v first h → claim h ≡ size → on_claimed v h (opcode_of first) (take size rest) ≡ good_instruction size class → laid v (record_on h first rest) ≡ true
   laid_by h (is_broken b) k g = apart (cc)
   laid_by h (is_end_lem n) k g = rw (absent_row v end_opcode (end_absent v)) given_none
   laid_by h (is_comment_lem o c) k g = rw (absent_row v comment_opcode (comment_absent v)) given_none
@@ -130,7 +130,7 @@ module _ (v : Version) (r : Record) (six : length r.operands ≡ operand_count) 
         (read_array places (unpredicated_in_order places (row_unpredicated v (opcode_of first) places e)) (few v (opcode_of first) places e) (is_predicated first)
         (some_row v first places e l) r.operands six (rw (row_is, marked_is) at fits))
 
-  read_by : (class : Class) (h : Head) → Says v first h → claim h ≡ length rest → on_claimed v h (opcode_of first) (take (length rest) rest) ≡ Lawful (length rest) class → record_on h first rest ≡ r
+  read_by : (class : Class) (h : Head) → Says v first h → claim h ≡ length rest → on_claimed v h (opcode_of first) (take (length rest) rest) ≡ good_instruction (length rest) class → record_on h first rest ≡ r
   read_by class h (is_broken b) k g = apart (cc)
   read_by class h (is_end_lem n) k g = let t = eq-eqb r.opcode end_opcode (sym heads.opcode ∙ ap opcode_of n) in apart (cc)
   read_by class h (is_comment_lem o c) k g = let t = eq-eqb r.opcode comment_opcode (sym heads.opcode ∙ o) in apart (cc)
@@ -138,7 +138,7 @@ module _ (v : Version) (r : Record) (six : length r.operands ≡ operand_count) 
       record_by_lem _ r heads.opcode heads.controls heads.predicated heads.coissue heads.extent
       (rw (k, take-length rest) (array_is places e l))
 
-  pub laid_read : (class : Class) → judged v (first ∷ rest) ≡ Lawful (length rest) class → record_of v (first ∷ rest) ≡ r
+  pub laid_read : (class : Class) → judged v (first ∷ rest) ≡ good_instruction (length rest) class → record_of v (first ∷ rest) ≡ r
   unfolding record_of
   laid_read class j =
       let g = good_claim (length rest) class v first rest j in
@@ -148,7 +148,7 @@ module _ (v : Version) (r : Record) (six : length r.operands ≡ operand_count) 
 pub laid_back : (v : Version) (r : Record) → length r.operands ≡ operand_count → laid v r ≡ true → (r.opcode ≡ end_opcode → ⊥) → (r.opcode ≡ comment_opcode → ⊥) →
     let behind = tokens_behind r (row_of v r) in
     Heads r (word (instruction_token v r (length behind))) → length behind ≤ 2 * operand_count → (class : Class) →
-    judged v (word (instruction_token v r (length behind)) ∷ words_of behind) ≡ Lawful (length (words_of behind)) class → reads_back v r ≡ true
+    judged v (word (instruction_token v r (length behind)) ∷ words_of behind) ≡ good_instruction (length (words_of behind)) class → reads_back v r ≡ true
 unfolding reads_back words_of
 laid_back v r six fits no_end no_comment heads short class j =
     let behind = tokens_behind r (row_of v r) in

@@ -17,8 +17,7 @@ use Rattle.paper.specs.declared.Version.{Version}
 use Rattle.paper.specs.declared.Reason.TheVariants.{Length as LENGTH, RunOut as RUN_OUT}
 use Rattle.paper.specs.declared.Refusal.{Refusal}
 use Rattle.paper.specs.declared.Class.{Class}
-use Rattle.paper.specs.declared.Judged.{Judged}
-use Rattle.paper.specs.declared.Judged.TheVariants.{Good as Lawful, Refused as Unlawful}
+use Rattle.paper.specs.Judgements.{Judged, good_instruction, bad_instruction}
 use Rattle.paper.proofs.VersionTokens.{named_back}
 use Rattle.paper.proofs.Bools.{apart}
 use Rattle.paper.proofs.OwnTokens.{good_claim, good_within, good_own}
@@ -43,10 +42,10 @@ pub record Own (v : Version) (r : Record) : Type 0 where
   pub class : Class
   pub are_words : Words (first ∷ rest)
   pub few : suc (length rest) ≤ most_tokens
-  pub good : judged v (first ∷ rest) ≡ Lawful (length rest) class
+  pub good : judged v (first ∷ rest) ≡ good_instruction (length rest) class
   pub record_is : record_of v (first ∷ rest) ≡ r
 
-own_tokens : (v : Version) (r : Record) (size : ℕ) (class : Class) (tokens : List ℕ) → judged v tokens ≡ Lawful size class → record_of v tokens ≡ r → Words tokens →
+own_tokens : (v : Version) (r : Record) (size : ℕ) (class : Class) (tokens : List ℕ) → judged v tokens ≡ good_instruction size class → record_of v tokens ≡ r → Words tokens →
     length tokens ≤ most_tokens → Own v r
 unfolding judged
 own_tokens v r size class [] j is words short = apart (cc)
@@ -59,7 +58,7 @@ own_tokens v r size class (first ∷ rest) j is words short =
       class = class;
       are_words = words_take (suc size) (first ∷ rest) words;
       few = omega arith;
-      good = good_own size class v (first ∷ rest) j ∙ ap (λ n. Lawful n class) (sym long);
+      good = good_own size class v (first ∷ rest) j ∙ ap (λ n. good_instruction n class) (sym long);
       record_is = record_own v (first ∷ rest) j ∙ is;
     }
 
@@ -71,9 +70,9 @@ never_got why reading next r a e =
 -- what a reading gives is an instruction's
 module _ (v : Version) (tokens : List ℕ) (at next : ℕ) (r : Record) (words : Words tokens) where
   by_judged : (j : Judged) → length tokens ≤ most_tokens → judged v (drop at tokens) ≡ j → read_judged j at (record_of v (drop at tokens)) ≡ got next r → Own v r
-  by_judged (Lawful size class) few j e =
+  by_judged (good_instruction size class) few j e =
       own_tokens v r size class (drop at tokens) j (ap (λ (x : Reading). x.instruction) e) (words_drop at tokens words) (omega (arith, length-drop at tokens))
-  by_judged (Unlawful x) few j e = never_got _ _ next r refl e
+  by_judged (bad_instruction x) few j e = never_got _ _ next r refl e
 
   by_tests : (short there : Bool) → leb (length tokens) most_tokens ≡ short →
       pick short (pick there (read_judged (judged v (drop at tokens)) at (record_of v (drop at tokens))) (unread RUN_OUT (length tokens))) (unread LENGTH 0) ≡ got next r → Own v r
@@ -86,7 +85,7 @@ module _ (v : Version) (tokens : List ℕ) (at next : ℕ) (r : Record) (words :
   read_own e = by_tests (leb (length tokens) most_tokens) (ltb at (length tokens)) refl (rw (named_back v) at e)
 
 -- and is read from its tokens alone
-pub alone_read : (v : Version) (r : Record) (first : ℕ) (rest : List ℕ) {class : Class} → suc (length rest) ≤ most_tokens → judged v (first ∷ rest) ≡ Lawful (length rest) class →
+pub alone_read : (v : Version) (r : Record) (first : ℕ) (rest : List ℕ) {class : Class} → suc (length rest) ≤ most_tokens → judged v (first ∷ rest) ≡ good_instruction (length rest) class →
     record_of v (first ∷ rest) ≡ r → reading (version_token v) (first ∷ rest) 0 ≡ got (suc (length rest)) r
 unfolding reading reading_at
 alone_read v r first rest few good is =
@@ -100,14 +99,14 @@ pub data Lawfully (v : Version) (first : ℕ) (rest : List ℕ) : Record → Lis
   an_entry : (operands : List Operand) → IsListed v first → Lawfully v first rest (instruction_record first operands) []
 
 module _ (v : Version) (first : ℕ) (rest : List ℕ) (size : ℕ) (class : Class) where
-  lawfully_by : (h : Head) → Says v first h → claim h ≤ length rest → (behind : List ℕ) → on_claimed v h (opcode_of first) behind ≡ Lawful size class →
+  lawfully_by : (h : Head) → Says v first h → claim h ≤ length rest → (behind : List ℕ) → on_claimed v h (opcode_of first) behind ≡ good_instruction size class →
       Lawfully v first rest (record_on h first rest) (body_on h rest)
   lawfully_by h (is_broken b) there behind j = apart (cc)
   lawfully_by h (is_end_lem n) there behind j = an_end
   lawfully_by h (is_comment_lem o l) there behind j = a_comment there
   lawfully_by h (is_listed {places} o e l) there behind j = an_entry _ (record { places = places; other = o; entry = e; laid = l })
 
-  pub lawfully : judged v (first ∷ rest) ≡ Lawful size class → Lawfully v first rest (record_of v (first ∷ rest)) (comment_body v (first ∷ rest))
+  pub lawfully : judged v (first ∷ rest) ≡ good_instruction size class → Lawfully v first rest (record_of v (first ∷ rest)) (comment_body v (first ∷ rest))
   unfolding record_of comment_body
   lawfully j =
       let g = good_claim size class v first rest j in

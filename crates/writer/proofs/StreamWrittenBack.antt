@@ -1,4 +1,5 @@
 -- Demand 2: the records of a cutting, written in order with each comment's body lent back, give the tokens again.
+use Rattle.std.specs.Prelude.{Ok}
 use mathlib.Core.Path.{◌≡◌, refl, ap, ◌∙◌}
 use mathlib.Core.List.{List, [], ◌∷◌, ◌++◌, append-nil}
 use Prim.Native.Nat.{ℕ, zero, suc, ◌+◌, ◌≤◌}
@@ -11,7 +12,6 @@ use Rattle.paper.specs.Versions.{version_token}
 use Rattle.paper.specs.Stream.{most_tokens, verdict}
 use Rattle.paper.specs.declared.Version.{Version}
 use Rattle.paper.specs.declared.Class.{Class}
-use Rattle.paper.specs.declared.Verdict.TheVariants.{Accepted}
 use Rattle.paper.proofs.Bools.{both_right}
 use Rattle.paper.proofs.VersionTokens.{named_back}
 use Rattle.cutting.specs.Cuttings.{joined, Alone, Chunks, last, next, Cutting}
@@ -104,7 +104,7 @@ stream_written_back v tokens chunks classes (cut, is) words few buffer long =
     rw (is, at_end_lem, whole buffer tokens long) at all
 
 -- an accepted stream: the records of its cutting, in order, give the tokens behind its version again
-pub accepted_written_back : (s : List ℕ) (n : ℕ) (accept : verdict s ≡ Accepted n) → Words s → (buffer : List ℕ) → length buffer ≡ length (drop 1 s) →
+pub accepted_written_back : (s : List ℕ) (n : ℕ) (accept : verdict s ≡ Ok n) → Words s → (buffer : List ℕ) → length buffer ≡ length (drop 1 s) →
     WritesAll (get_or s 0 0) (pieces_of (accepted_is_a_cutting s n accept).version (accepted_is_a_cutting s n accept).chunks) buffer 0
     (drop 1 s) (length (drop 1 s))
 accepted_written_back s n accept words buffer long =

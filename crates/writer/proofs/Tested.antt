@@ -11,7 +11,7 @@ use Rattle.paper.specs.InstructionToken.{comment_opcode, end_opcode}
 use Rattle.paper.specs.Instruction.{judged}
 use Rattle.paper.specs.declared.Version.{Version}
 use Rattle.paper.specs.declared.Class.{Class}
-use Rattle.paper.specs.declared.Judged.TheVariants.{Good as Lawful}
+use Rattle.paper.specs.Judgements.{good_instruction}
 use Rattle.paper.proofs.Bools.{apart}
 use Rattle.shapes.specs.Shape.{shape_of}
 use Rattle.shapes.proofs.Shapes.{shape_absent, shape_zero}
@@ -39,7 +39,7 @@ module _ (v : Version) (r : Record) (n : ℕ) where
     pub class : Class
     pub heads : Heads r (word (instruction_token v r (length (tokens_behind r (row_of v r)))))
     pub lent : n ≡ 0
-    pub good : judged v (word (instruction_token v r (length (tokens_behind r (row_of v r)))) ∷ words_of (tokens_behind r (row_of v r))) ≡ Lawful (length (words_of (tokens_behind r (row_of v r)))) class
+    pub good : judged v (word (instruction_token v r (length (tokens_behind r (row_of v r)))) ∷ words_of (tokens_behind r (row_of v r))) ≡ good_instruction (length (words_of (tokens_behind r (row_of v r)))) class
 
   pub data Kinds : Type 0 where
     is_bare : shape_of v r.opcode ≡ 0 → Bare → Kinds
@@ -54,7 +54,7 @@ module _ (v : Version) (r : Record) (n : ℕ) where
   pub tested_laid : writable v r n ≡ true → laid v r ≡ true
   tested_laid w = own_laid v r (own w).0
 
-module _ (v : Version) (first : ℕ) (rest : List ℕ) (class : Class) (short : length rest ≤ longest_comment) (good : judged v (first ∷ rest) ≡ Lawful (length rest) class) where
+module _ (v : Version) (first : ℕ) (rest : List ℕ) (class : Class) (short : length rest ≤ longest_comment) (good : judged v (first ∷ rest) ≡ good_instruction (length rest) class) where
   table : (r : Record) (n : ℕ) → n ≡ 0 → words_of (encoded_by v r (row_of v r)) ≡ first ∷ rest → Heads r first → InTable v r n
   unfolding words_of
   table r n none same heads =

@@ -14,7 +14,7 @@ use Rattle.paper.specs.InstructionToken.{comment_opcode}
 use Rattle.paper.specs.declared.Version.{Version}
 use Rattle.paper.specs.declared.Class.TheVariants.{One}
 use Rattle.paper.specs.declared.Single.TheVariants.{Comment}
-use Rattle.paper.specs.declared.Judged.TheVariants.{Good as Lawful}
+use Rattle.paper.specs.Judgements.{good_instruction}
 use Rattle.paper.proofs.Bools.{both_left, both_right, apart}
 use Rattle.records.specs.declared.Record.{Record}
 use Rattle.records.specs.Record.{comment_record}
@@ -100,7 +100,7 @@ module _ (v : Version) (r : Record) (y : yielded_comment r ≡ true) where
   comment_reads body agrees =
       let same = record_equal (comment_record r.extent) r (both_right (leb r.extent longest_comment) _ y) in
       let good = comment_judged v r.extent (omega (arith, comment_short)) body agrees in
-      alone_read v r (comment_token r.extent) body (omega (arith, comment_short)) (good ∙ ap (λ n. Lawful n (One Comment)) (sym agrees))
+      alone_read v r (comment_token r.extent) body (omega (arith, comment_short)) (good ∙ ap (λ n. good_instruction n (One Comment)) (sym agrees))
       (comment_read v r.extent (omega (arith, comment_short)) body ∙ same)
 
   comment_yielded : Yielded v r

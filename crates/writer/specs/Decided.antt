@@ -1,12 +1,10 @@
 -- How the code decides what the writer tells and leaves in the buffer: RECORD by a test, which encodes the record and reads it back.
-use Rattle.std.specs.Prelude.{ℕ, ◌+◌, ◌-◌, ◌≤◌, ◌≡◌, Bool, true, false, ◌&&◌, List, ◌++◌, eqb, leb, length, take}
+use Rattle.std.specs.Prelude.{ℕ, ◌+◌, ◌-◌, ◌≤◌, ◌≡◌, Bool, true, false, ◌&&◌, List, ◌++◌, eqb, leb, length, take, Option, Some, None}
 use Rattle.paper.specs.Notation.{pick}
 use Rattle.paper.specs.Versions.{version_token, named}
 use Rattle.paper.specs.InstructionToken.{comment_opcode}
 use Rattle.paper.specs.Stream.{most_tokens}
 use Rattle.paper.specs.declared.Version.{Version}
-use Rattle.paper.specs.declared.Named.{Named}
-use Rattle.paper.specs.declared.Named.TheVariants.{Known, Unknown}
 use Rattle.paper.specs.declared.Reason.TheVariants.{Version as VERSION, Room as ROOM, Record as RECORD}
 use Rattle.records.specs.declared.Record.{Record}
 use Rattle.records.specs.Record.{comment_record}
@@ -60,9 +58,9 @@ unfoldable pub writing_in : Version → Record → List ℕ → List ℕ → ℕ
 writing_in v r body buffer at =
     pick (writable v r (length body)) (room (tokens_of v r body) buffer at) (Refused RECORD)
 
-abbrev pub writing_on : Named → Record → List ℕ → List ℕ → ℕ → Written
-writing_on (Known v) r body buffer at = writing_in v r body buffer at
-writing_on Unknown r body buffer at = Refused VERSION
+abbrev pub writing_on : Option Version → Record → List ℕ → List ℕ → ℕ → Written
+writing_on (Some v) r body buffer at = writing_in v r body buffer at
+writing_on None r body buffer at = Refused VERSION
 
 unfoldable pub writing : ℕ → Record → List ℕ → List ℕ → ℕ → Written
 writing version r body buffer at = writing_on (named version) r body buffer at
@@ -75,9 +73,9 @@ content_after (Refused r) tokens buffer at = buffer
 unfoldable pub content_in : Version → Record → List ℕ → List ℕ → ℕ → List ℕ
 content_in v r body buffer at = content_after (writing_in v r body buffer at) (tokens_of v r body) buffer at
 
-abbrev pub content_on : Named → Record → List ℕ → List ℕ → ℕ → List ℕ
-content_on (Known v) r body buffer at = content_in v r body buffer at
-content_on Unknown r body buffer at = buffer
+abbrev pub content_on : Option Version → Record → List ℕ → List ℕ → ℕ → List ℕ
+content_on (Some v) r body buffer at = content_in v r body buffer at
+content_on None r body buffer at = buffer
 
 unfoldable pub buffer_written : ℕ → Record → List ℕ → List ℕ → ℕ → List ℕ
 buffer_written version r body buffer at = content_on (named version) r body buffer at

@@ -3,8 +3,7 @@ use Rattle.std.specs.Prelude.{ℕ, ◌+◌, ◌-◌, ◌^◌, ◌≡◌, Bool, t
 use Rattle.paper.specs.Notation.{pick, bit}
 use Rattle.paper.specs.InstructionToken.{opcode_of, controls_of, is_coissued, comment_opcode, end_opcode, end_token}
 use Rattle.paper.specs.OperandTokens.{is_free}
-use Rattle.paper.specs.declared.Judged.{Judged}
-use Rattle.paper.specs.declared.Judged.TheVariants.{Good as Lawful, Refused as Unlawful}
+use Rattle.paper.specs.Judgements.{Judged, good_instruction, bad_instruction}
 use Rattle.paper.specs.Places.{Place, is_raw, is_destination, is_predicate}
 use Rattle.records.specs.declared.Operand.{Operand}
 use Rattle.records.specs.Record.{predicate_slot, no_operand, raw_operand}
@@ -82,8 +81,8 @@ bare_token opcode size = pick (eqb opcode comment_opcode) (comment_token size) e
 
 -- tokens that are judged good as one instruction
 abbrev pub is_whole : Judged → ℕ → Bool
-is_whole (Lawful size class) n = eqb (size + 1) n
-is_whole (Unlawful r) n = false
+is_whole (good_instruction size class) n = eqb (size + 1) n
+is_whole (bad_instruction r) n = false
 
 -- no row takes so many tokens
 abbrev pub misfit : ℕ

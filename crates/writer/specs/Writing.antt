@@ -1,13 +1,12 @@
 -- Document 01, "Records": "A comment's record holds its length; the writer is lent the body, whose length must agree (0 for any other
 -- record), else RECORD. .. The writer tests VERSION, RECORD, then ROOM; only the named tokens change." RECORD: "record is none that reading
 -- yields in this version". ROOM: "what is to be written does not fit". "A refusal writes nothing into a lent buffer."
-use Rattle.std.specs.Prelude.{ℕ, ◌+◌, ◌≤◌, ◌<◌, ◌≡◌, List, eqb, length}
+use Rattle.std.specs.Prelude.{ℕ, ◌+◌, ◌≤◌, ◌<◌, ◌≡◌, List, eqb, length, Some, None}
 use Rattle.paper.specs.Notation.{pick}
 use Rattle.paper.specs.Versions.{version_token, named}
 use Rattle.paper.specs.Numbers.{number_of}
 use Rattle.paper.specs.InstructionToken.{comment_opcode}
 use Rattle.paper.specs.declared.Version.{Version}
-use Rattle.paper.specs.declared.Named.TheVariants.{Known, Unknown}
 use Rattle.paper.specs.declared.Reason.TheVariants.{Version as VERSION, Room as ROOM, Record as RECORD}
 use Rattle.records.specs.declared.Record.{Record}
 use Rattle.reader.specs.Reading.{got, reading}
@@ -47,10 +46,10 @@ told_writing (Refused reason) = record { number = number_of reason; position = 0
 -- what the writer tells of a version token, a record, a body, a buffer and a place, and what the buffer holds then: VERSION, RECORD and ROOM,
 -- each only where the ones before it are not given, leave it as it was; a yes changes "only the named tokens"
 pub data Writes (version : ℕ) (r : Record) (body buffer : List ℕ) (at : ℕ) : ToldWriting → List ℕ → Type 0 where
-  unnamed : named version ≡ Unknown → Writes version r body buffer at (told_writing (Refused VERSION)) buffer
-  unwritable : {v : Version} → named version ≡ Known v → (Writable v r body → ⊥) →
+  unnamed : named version ≡ None → Writes version r body buffer at (told_writing (Refused VERSION)) buffer
+  unwritable : {v : Version} → named version ≡ Some v → (Writable v r body → ⊥) →
       Writes version r body buffer at (told_writing (Refused RECORD)) buffer
-  cramped : {v : Version} → named version ≡ Known v → Writable v r body → length buffer < at + length (tokens_of v r body) →
+  cramped : {v : Version} → named version ≡ Some v → Writable v r body → length buffer < at + length (tokens_of v r body) →
       Writes version r body buffer at (told_writing (Refused ROOM)) buffer
-  written : {v : Version} → named version ≡ Known v → Writable v r body → at + length (tokens_of v r body) ≤ length buffer →
+  written : {v : Version} → named version ≡ Some v → Writable v r body → at + length (tokens_of v r body) ≤ length buffer →
       Writes version r body buffer at (told_writing (Wrote (at + length (tokens_of v r body)))) (pasted buffer at (tokens_of v r body))

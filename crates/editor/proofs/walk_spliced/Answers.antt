@@ -7,7 +7,7 @@ use lib.ListN.{length}
 use borrow.Author.Tests.{ltb-false}
 use Rattle.paper.specs.Stream.{most_tokens}
 use Rattle.paper.specs.declared.Version.{Version}
-use Rattle.paper.specs.declared.Verdict.{Verdict}
+use Rattle.paper.specs.Judgements.{Verdict}
 use Rattle.paper.proofs.OneToOne.{same_verdict}
 use Rattle.edit.specs.Edit.{splice, new_length, on_verdict}
 use Rattle.edit.proofs.Prefix.{splice_length}

@@ -6,9 +6,9 @@ pub returns-then-is_refused : goal.returns-then-is_refused
 unfolding judged_from
 returns-then-is_refused c =
     simp (
-      c.position_of-position.ensures,
-      c.bit_of-detail.ensures,
-      c.reason_by-reason.ensures,
+      c.position_of.ensures,
+      c.bit_of.ensures,
+      c.reason_by.ensures,
       sym c.is_refused.ensures ∙ c.if-is_refused.true,
     )
 
@@ -16,7 +16,7 @@ pub returns : goal.returns
 unfolding judged_from
 returns c =
     simp (
-      c.size_of-size.ensures,
-      c.class_by-class.ensures,
+      c.size_of.ensures,
+      c.class_by.ensures,
       sym c.is_refused.ensures ∙ c.if-is_refused.false,
     )

@@ -3,8 +3,7 @@ use mathlib.Core.Bool.{true, false}
 use Prim.Native.Nat.{ℕ, ◌+◌}
 use lib.Dec.{eqb}
 use Rattle.paper.specs.Instruction.{judged}
-use Rattle.paper.specs.declared.Judged.{Judged}
-use Rattle.paper.specs.declared.Judged.TheVariants.{Good as Lawful, Refused as Unlawful}
+use Rattle.paper.specs.Judgements.{Judged, good_instruction, bad_instruction}
 use Rattle.paper.proofs.Bools.{apart}
 use Rattle.told.specs.Numbered.{judged_number, is_refusal, size_in}
 use Rattle.told.proofs.Numbers.{yes_even, yes_size, refusal_odd}
@@ -13,12 +12,12 @@ use Rattle.writer.specs.Laid.{is_whole}
 use Rattle.writer.proofs.is_whole.Goals as goal
 
 refused : (j : Judged) (told n : ℕ) → told ≡ judged_number j → is_refusal told ≡ true → false ≡ is_whole j n
-refused (Lawful size class) told n t f = let even = sym (yes_even size class) ∙ ap is_refusal (sym t) ∙ f in apart (cc)
-refused (Unlawful r) told n t f = refl
+refused (good_instruction size class) told n t f = let even = sym (yes_even size class) ∙ ap is_refusal (sym t) ∙ f in apart (cc)
+refused (bad_instruction r) told n t f = refl
 
 passed : (j : Judged) (told n : ℕ) → told ≡ judged_number j → is_refusal told ≡ false → eqb (size_in told + 1) n ≡ is_whole j n
-passed (Lawful size class) told n t f = rw (t, yes_size size class)
-passed (Unlawful r) told n t f = let odd = sym (refusal_odd r) ∙ ap is_refusal (sym t) ∙ f in apart (cc)
+passed (good_instruction size class) told n t f = rw (t, yes_size size class)
+passed (bad_instruction r) told n t f = let odd = sym (refusal_odd r) ∙ ap is_refusal (sym t) ∙ f in apart (cc)
 
 pub returns-then-is_refused : goal.returns-then-is_refused
 returns-then-is_refused c =
