@@ -10,6 +10,7 @@ use Rattle.paper.specs.declared.Version.{Version}
 use Rattle.paper.proofs.OneToOne.{same_refusal, no_reason_zero}
 use Rattle.paper.specs.declared.Class.{Class}
 use Rattle.paper.specs.Judgements.{good_instruction}
+use Rattle.records.specs.declared.Record.{Record}
 use Rattle.records.specs.Record.{record_of}
 use Rattle.records.proofs.OwnRecord.{record_own}
 use Rattle.reader.specs.Reading.{Answer, got, reading_at, reading, ToldReading, told_reading}
@@ -23,6 +24,11 @@ told_one (Ok r) (Err s) e = absurd (no_reason_zero s.reason (ap (λ (t : ToldRea
 told_one (Err r) (Ok s) e = absurd (no_reason_zero r.reason (sym (ap (λ (t : ToldReading). t.number) e)))
 told_one (Err r) (Err s) e =
     ap Err (same_refusal r s (ap (λ (t : ToldReading). t.number) e) (ap (λ (t : ToldReading). t.position) e) (ap (λ (t : ToldReading). t.detail) e))
+
+-- the next place and the record of a yes
+pub same_got : {m n : ℕ} {i j : Record} → got m i ≡ got n j → (m ≡ n) × (i ≡ j)
+unfolding told_reading
+same_got e = let told = ap told_reading e in (ap (λ (t : ToldReading). t.next) told, ap (λ (t : ToldReading). t.instruction) told)
 
 pub reading_unique : (version : ℕ) (tokens : List ℕ) (at : ℕ) (r : Answer) → told_reading r ≡ told_reading (reading version tokens at) → r ≡ reading version tokens at
 reading_unique version tokens at r e = told_one r (reading version tokens at) e
