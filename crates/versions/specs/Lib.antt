@@ -2,3 +2,4 @@
 pub mod Sets
 pub mod Rows
 pub mod Names
+pub mod Forms
