@@ -213,8 +213,9 @@ fn declared_fields(version: Version, token: u32) -> u32
     0
 }
 
-// What is wrong with a DCL's destination.
-fn declared_fault(version: Version, token: u32) -> Option<Fault>
+// What is wrong with a DCL's destination. Never in the judge's own code, as what follows: it would lengthen the way of a lawful DCL.
+#[inline(never)]
+pub fn declared_fault(version: Version, token: u32) -> Option<Fault>
     ensures { as_token result ≡ declared_fault version token }
 {
     let zeros = declared_zeros(version, token);
@@ -243,7 +244,8 @@ fn usage_field(usage: u32) -> u32
 }
 
 // What is wrong with U, whose form goes with the destination's type.
-fn usage_fault(version: Version, destination: u32, usage: u32) -> Option<Fault>
+#[inline(never)]
+pub fn usage_fault(version: Version, destination: u32, usage: u32) -> Option<Fault>
     ensures { as_token result ≡ usage_fault version (type_of destination) usage }
 {
     match versions::form_of(version, destination).unwrap_or(Form::Usage) {
@@ -251,19 +253,4 @@ fn usage_fault(version: Version, destination: u32, usage: u32) -> Option<Fault>
         Form::Plain => fault_by(PLAIN, 0, usage, true, true),
         Form::Usage => fault_by(USAGE, usage_field(usage), usage, true, true),
     }
-}
-
-// What is wrong with a token of a DCL, U or the destination. One function for both: with two callers it stays out of the judge's own code.
-pub fn declaration_fault(
-    version: Version,
-    destination: u32,
-    usage: u32,
-    in_usage: bool,
-) -> Option<Fault>
-    ensures { as_token result ≡ pick in_usage (usage_fault version (type_of destination) usage) (declared_fault version destination) }
-{
-    if in_usage {
-        return usage_fault(version, destination, usage);
-    }
-    declared_fault(version, destination)
 }
