@@ -138,9 +138,10 @@ fn judged(laid: bool, typed: bool) -> Result<(), Wrong>
 pub fn plain_source(token: u32) -> bool
     ensures { result ≡ plain_source token }
 {
-    (token / 0x4000 % 4 == 0)
-        & ((token / 0x2000 % 2 == 0)
-            & ((token / 0x100_0000 % 16 <= 1) & (token / 0x8000_0000 % 2 == 1)))
+    (token / 0x8000_0000 % 2 == 1)
+        & (token / 0x4000 % 4 == 0)
+        & (token / 0x2000 % 2 == 0)
+        & (token / 0x100_0000 % 16 <= 1)
 }
 
 // Most destinations: a mask, saturated or not.
@@ -148,10 +149,11 @@ fn plain_destination(token: u32) -> bool
     ensures { result ≡ plain_destination token }
 {
     (token / 0x4000 % 4 == 0)
-        & ((token / 0x2000 % 2 == 0)
-            & ((token / 0x20_0000 % 4 == 0)
-                & ((token / 0x80_0000 % 2 == 0)
-                    & ((token / 0x100_0000 % 16 == 0) & (token / 0x8000_0000 % 2 == 1)))))
+        & (token / 0x2000 % 2 == 0)
+        & (token / 0x20_0000 % 4 == 0)
+        & (token / 0x80_0000 % 2 == 0)
+        & (token / 0x100_0000 % 16 == 0)
+        & (token / 0x8000_0000 % 2 == 1)
 }
 
 // The layout of a free destination. What is plain is laid out right in every version.
@@ -258,6 +260,5 @@ pub fn judge_token(version: Version, place: u64, token: u32) -> Result<(), Wrong
 pub fn brings_relative(place: u64, token: u32) -> bool
     ensures { result ≡ brings_relative (place_by place) token }
 {
-    let free = places::is_free(place);
-    free & (token / 0x2000 % 2 == 1)
+    places::is_free(place) && token / 0x2000 % 2 == 1
 }
