@@ -1,16 +1,14 @@
 -- The operands of DCL by the places of their tokens, and by the numbers of their forms.
 use mathlib.Core.Path.{◌≡◌, refl, sym, ap, ◌∙◌}
-use mathlib.Core.Bool.{Bool, true, false, not, ◌&&◌, ◌||◌}
+use mathlib.Core.Bool.{true, false, ◌&&◌}
 use mathlib.Core.List.{List, [], ◌∷◌}
 use Prim.Native.Nat.{ℕ, ◌<◌, ◌≤◌}
 use native.Mathlib.Omega.{arith}
-use lib.Dec.{eqb}
 use lib.ListN.{length, drop, get_or, length-drop}
-use Rattle.paper.specs.Notation.{pick, among}
 use Rattle.paper.specs.Numbers.{number_of, told_token}
 use Rattle.paper.specs.OperandTokens.{type_of, laid, refused_operands, left_over}
 use Rattle.paper.specs.Places.{declared}
-use Rattle.paper.specs.Dcl.{sampler_form, plain_form, usage_form, sampler_types, plain_types, usage_types, is_declared, form_laid, face_laid, declared_fault, on_declared, usage_laid, usage_fault, usage_at, declaration}
+use Rattle.paper.specs.Dcl.{is_declared, face_laid, declared_fault, on_declared, usage_laid, usage_fault, usage_at, declaration}
 use Rattle.paper.specs.declared.Version.{Version}
 use Rattle.paper.specs.declared.Reason.TheVariants.{Size as SIZE, Register as REGISTER}
 use Rattle.paper.specs.Judgements.{Token, good_token, bad_token, Operands, good_operands}

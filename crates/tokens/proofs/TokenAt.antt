@@ -16,7 +16,7 @@ use Rattle.places.specs.Places.{only_type, types_by, place_by}
 use Rattle.places.proofs.Places.{by_place}
 use Rattle.paper.specs.declared.Version.{Version}
 use Rattle.paper.proofs.Bools.{both_left, both_right, never, apart}
-use Rattle.paper.proofs.Faults.{is_good, token_good}
+use Rattle.paper.proofs.Faults.{is_good, faultless, token_good}
 use Rattle.std.specs.Prelude.{Some, None, Ok, Err, is_ok}
 use Rattle.paper.specs.Judgements.{bad_token}
 use Rattle.paper.specs.declared.Reason.TheVariants.{Register as REGISTER}
@@ -55,6 +55,14 @@ module _ (v : Version) (place : Place) (token : ℕ) where
       by true true f = apart (cc)
       by true false f = apart (cc)
       by false is_typed f = refl
+
+  pub brief_faulty : brief v place token ≡ Err Layout → is_good (fault_at v place token) ≡ false
+  brief_faulty e = by (laid v place token) (typed v place (type_of token)) (faultless v token place) e
+    where
+      by : (is_laid is_typed : Bool) → is_good (fault_at v place token) ≡ is_laid → briefly is_laid is_typed ≡ Err Layout → is_good (fault_at v place token) ≡ false
+      by true true l f = apart (cc)
+      by true false l f = apart (cc)
+      by false is_typed l f = l
 
   pub brief_type : brief v place token ≡ Err Register → token_at v place token ≡ bad_token REGISTER 0
   unfolding token_at
