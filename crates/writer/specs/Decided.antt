@@ -35,12 +35,12 @@ unfoldable pub writable : Version → Record → ℕ → Bool
 writable v r n =
     pick (eqb r.opcode comment_opcode) (eqb n r.extent && yielded_comment r) (eqb n 0 && reads_back v r)
 
--- what the code encodes of a record that is lent a body of so many tokens: so many tokens before the body, none if the test fails
-pub record Encodes (v : Version) (r : Record) (n count : ℕ) (tokens : List ℕ) : Type 0 where
-  pub inside : count ≤ length tokens
-  pub fails : count ≡ 0 → writable v r n ≡ false
-  pub passes : (count ≡ 0 → ⊥) → writable v r n ≡ true
-  pub stands : (count ≡ 0 → ⊥) → (body : List ℕ) → length body ≡ n → tokens_of v r body ≡ take count tokens ++ body
+-- what the code encodes of a record that is lent a body of so many tokens: how many tokens before the body, or none if the test fails
+pub record Encodes (v : Version) (r : Record) (n : ℕ) (encoded : Option ℕ) (tokens : List ℕ) : Type 0 where
+  pub inside : {count : ℕ} → encoded ≡ Some count → count ≤ length tokens
+  pub fails : encoded ≡ None → writable v r n ≡ false
+  pub passes : {count : ℕ} → encoded ≡ Some count → writable v r n ≡ true
+  pub stands : {count : ℕ} → encoded ≡ Some count → (body : List ℕ) → length body ≡ n → tokens_of v r body ≡ take count tokens ++ body
 
 -- the answer: a place past the buffer's end leaves no room either
 abbrev pub room : List ℕ → List ℕ → ℕ → Written
