@@ -68,6 +68,7 @@ fn judge_unlisted(first: u32, shown: usize, beyond: usize) -> u64
 
 // The instruction whose first token this is. Of the tokens behind it the first fifteen are shown, or all, and `beyond` more are there:
 // nothing but a comment claims more, and a comment's are not looked at.
+#[tactic(auto, using(crate::proofs::Judging::first_laws))]
 pub fn judge_first(version: Version, first: u32, behind: &[u32], beyond: usize) -> u64
     ensures { result ≡ judged_number (judged_in version first behind.now (length behind.now + beyond)) }
 {
