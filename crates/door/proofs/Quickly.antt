@@ -1,4 +1,5 @@
 -- What the quick tests tell: the token is good at its place and brings no relative one, the operands of a row fit, and the judge calls the instruction good.
+use Rattle.std.specs.Prelude.{Some}
 use Prim.Native.Nat.{ℕ, zero, suc, ◌+◌, ◌*◌, ◌/◌, ◌%◌, ◌^◌, ◌<◌, ◌≤◌}
 use mathlib.Core.Path.{◌≡◌, refl, sym, ap, ◌∙◌}
 use mathlib.Core.Bool.{Bool, true, false, not, ◌&&◌, ◌||◌}
@@ -464,14 +465,11 @@ module _ (v : Version) (first row told : ℕ) (behind : List ℕ) (left : ℕ) (
     zeros : has_zeros first ≡ true
     zeros = all_true (eqb (first / 2 ^ 28) 0) (eqb (controls_of first) 0) (eq-eqb (first / 2 ^ 28) 0 high) (eq-eqb (controls_of first) 0 controls)
 
-    claims : claim_if shape first ≡ size_in row
-    claims = zeros_claim shape first zeros x.rule ∙ sym size_said
+    claims : claim_if shape first ≡ Some (size_in row)
+    claims = rw size_said (zeros_claim shape first zeros x.rule)
 
-    there : (bits_by shape first ≡ true) × (claim_if shape first ≡ claim_by shape first)
-    there =
-        let top = high in
-        let above : first / 2 ^ 24 / 16 ≡ first / 2 ^ 28 = omega arith in
-        claim_there shape first (rw (claims, size_said) (omega arith))
+    there : (bits_by shape first ≡ true) × (size_in row ≡ claim_by shape first)
+    there = claim_there shape first (size_in row) claims
 
     unpredicated : is_predicated first ≡ false
     unpredicated = let top = high in let none : bit 28 first ≡ 0 = omega arith in rw none refl
@@ -483,7 +481,7 @@ module _ (v : Version) (first row told : ℕ) (behind : List ℕ) (left : ℕ) (
     judged_is : judged_in v first behind left ≡ good_instruction (size_in row) (class_of (opcode_of first))
     judged_is =
         judged_shaped v first behind left x.there
-        ∙ rw (there.0, ← there.1, claims, places_are, le-leb (size_in row) (length behind) t.there, ne_eqb (opcode_of first) DCL x.other, t.fit) refl
+        ∙ rw (there.0, ← there.1, places_are, le-leb (size_in row) (length behind) t.there, ne_eqb (opcode_of first) DCL x.other, t.fit) refl
 
     pub quick_law : told ≡ judged_number (judged_in v first behind left)
     quick_law =

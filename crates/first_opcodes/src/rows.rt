@@ -10,7 +10,7 @@ const LATER: u64 = 0b110;
 const LAST: u64 = 0b100;
 
 // What every shape of vs_1_1 has, and of the pixel versions: no size is stated, and there may be co-issue. Every opcode but PHASE is plain.
-const NO_SIZE: u64 = shapes::SIZELESS * shapes::RULE;
+const NO_SIZE: u64 = shapes::Rule::Sizeless as u64 * shapes::RULE;
 
 const VERTEX: u64 = shapes::PLAIN + NO_SIZE;
 

@@ -26,7 +26,7 @@ use Rattle.shapes.proofs.Shapes.{shape_absent, shape_zero, shape_class}
 use Rattle.shapes.proofs.Table.{beyond}
 use Rattle.shapes.proofs.Computed.{Beyond}
 use Rattle.instruction_token.specs.ByShape.{bits_by}
-use Rattle.instruction_token.proofs.ByShape.{bits_by_lem, claim_by_lem, places_back}
+use Rattle.instruction_token.proofs.ByShape.{bits_by_lem, claim_by_lem, places_back, claim_there, claim_none, claim_few}
 use Rattle.instruction.specs.Shown.{listed_head, room_for, judged_with, judged_in, unlisted_in}
 
 module _ (v : Version) (first : ℕ) (behind : List ℕ) (left : ℕ) where
@@ -137,3 +137,6 @@ judged_shown v s behind at left h l same =
     let rest : drop 1 (drop at s) ≡ drop (at + 1) s = drop-drop 1 at s in
     let whole = judged_whole_lem v (drop at s) left (λ e. omega (arith, length-drop at s)) (rw (rest, length-drop (at + 1) s) l) in
     shown_alike v (get_or s at 0) behind (drop (at + 1) s) left same ∙ sym (rw (token, rest) at whole)
+
+-- what tells a first token's judgement: its shape, and its claim
+pub ruleset first_laws = (judged_unlisted, judged_shaped, class_in_lem, claim_there, claim_none, claim_few)

@@ -9,7 +9,6 @@ ghost use Rattle.shapes.specs.Classes.{class_number};
 ghost use Rattle.shapes.specs.Shape.{class_in};
 ghost use Rattle.told.specs.Numbered.{operands_number, judged_number};
 ghost use Rattle.instruction.specs.Shown.{places_in, judged_in, unlisted_in};
-ghost use Rattle.instruction_token.specs.ByShape.{no_claim};
 
 use paper::{Reason, Version};
 
@@ -25,7 +24,7 @@ fn judge_claimed(version: Version, shape: u64, first: u32, behind: &[u32]) -> u6
 
 // An instruction whose opcode has this shape, and which claims so many tokens.
 fn judge_listed(version: Version, shape: u64, first: u32, claim: u32, behind: &[u32]) -> u64
-    requires { (class_in shape ≡ class_number (class_of (opcode_of first))) × (claim < no_claim) }
+    requires { (class_in shape ≡ class_number (class_of (opcode_of first))) × (claim < 16) }
     ensures { result ≡ judged_number (by_head version (operation (places_in shape first) claim) (opcode_of first) behind.now) }
 {
     let size = claim as usize;
@@ -44,38 +43,32 @@ fn judge_listed(version: Version, shape: u64, first: u32, claim: u32, behind: &[
 fn are_there(claimed: usize, shown: usize, beyond: usize) -> bool
     ensures { result ≡ leb claimed (shown + beyond) }
 {
-    if shown < claimed {
-        return claimed - shown <= beyond;
-    }
-    true
+    claimed.saturating_sub(shown) <= beyond
 }
 
 // An instruction whose opcode is in no row of its version, where behind its first token so many are shown and `beyond` more are there.
+#[tactic(auto, unfolding(crate::specs::Shown::unlisted_in))]
 fn judge_unlisted(first: u32, shown: usize, beyond: usize) -> u64
     ensures { result ≡ judged_number (unlisted_in first (shown + beyond)) }
 {
-    let opcode = instruction_token::opcode_of(first);
-    if opcode == paper::COMMENT {
-        if instruction_token::comment_laid(first) {
+    match instruction_token::opcode_of(first) {
+        paper::COMMENT if instruction_token::comment_laid(first) => {
             let length = instruction_token::comment_length(first);
             if are_there(length as usize, shown, beyond) {
-                return told::yes(length, told::COMMENT);
+                told::yes(length, told::COMMENT)
+            } else {
+                told::refused_first(Reason::RunOut)
             }
-            return told::refused_first(Reason::RunOut);
         }
-        return told::refused_first(Reason::Bits);
+        paper::END if first == paper::END => told::yes(0, told::END),
+        paper::COMMENT | paper::END => told::refused_first(Reason::Bits),
+        _ => told::refused_first(Reason::Opcode),
     }
-    if opcode == paper::END {
-        if first == paper::END {
-            return told::yes(0, told::END);
-        }
-        return told::refused_first(Reason::Bits);
-    }
-    told::refused_first(Reason::Opcode)
 }
 
 // The instruction whose first token this is. Of the tokens behind it the first fifteen are shown, or all, and `beyond` more are there:
 // nothing but a comment claims more, and a comment's are not looked at.
+#[tactic(auto, using(crate::proofs::Judging::first_laws))]
 pub fn judge_first(version: Version, first: u32, behind: &[u32], beyond: usize) -> u64
     ensures { result ≡ judged_number (judged_in version first behind.now (length behind.now + beyond)) }
 {
@@ -83,9 +76,8 @@ pub fn judge_first(version: Version, first: u32, behind: &[u32], beyond: usize) 
     if shape == 0 {
         return judge_unlisted(first, behind.len(), beyond);
     }
-    let claim = instruction_token::claim_of(shape, first);
-    if claim < instruction_token::NO_CLAIM {
-        return judge_listed(version, shape, first, claim, &behind[0..]);
+    match instruction_token::claim_of(shape, first) {
+        Some(claim) => judge_listed(version, shape, first, claim, behind),
+        None => told::refused_first(Reason::Bits),
     }
-    told::refused_first(Reason::Bits)
 }

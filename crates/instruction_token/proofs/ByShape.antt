@@ -1,8 +1,9 @@
 -- The bits and the places of a first token, by the shape of its opcode.
+use Rattle.std.specs.Prelude.{Some, None}
 use mathlib.Core.Path.{◌≡◌, refl}
 use mathlib.Core.Bool.{Bool, true, false, ◌&&◌, ◌||◌}
 use mathlib.Core.List.{List, [], ◌∷◌}
-use Prim.Native.Nat.{ℕ, ◌/◌, ◌%◌, ◌^◌, ◌<◌, ◌≤◌}
+use Prim.Native.Nat.{ℕ, ◌/◌, ◌%◌, ◌^◌, ◌<◌}
 use native.Mathlib.Nat.{mod-lt}
 use native.Mathlib.Omega.{arith}
 use lib.Dec.{eqb, leb, lit<}
@@ -20,7 +21,7 @@ use Rattle.places.specs.Places.{decoded}
 use Rattle.places.proofs.Decoding.{without_predicate}
 use Rattle.shapes.specs.Shape.{sizeless, shape_of, rule_in, unstated_in}
 use Rattle.shapes.proofs.Shapes.{shape_places, shape_predicable, shape_rule, shape_coissue, shape_claim, decoded_digits, decoded_predicated}
-use Rattle.instruction_token.specs.ByShape.{has_zeros, controls_by, unsized_by, bits_by, claim_by, no_claim, claim_if, places_by}
+use Rattle.instruction_token.specs.ByShape.{has_zeros, controls_by, unsized_by, bits_by, claim_by, claim_if, places_by}
 
 -- the rule of a shape picks the same
 rule_by : (sized compared textured unsized reserved predicable : Bool) (controls : ℕ) →
@@ -93,7 +94,7 @@ even_zeros rule few even = (ne_eqb rule sizeless (λ e. omega arith), by (eqb ru
     by true n = rw (eqb-true rule 0 n) refl
     by false n = rw (second (eqb-false rule 0 n)) refl
 
-pub zeros_claim : (shape token : ℕ) → has_zeros token ≡ true → rule_in shape % 2 ≡ 0 → claim_if shape token ≡ token / 2 ^ 24
+pub zeros_claim : (shape token : ℕ) → has_zeros token ≡ true → rule_in shape % 2 ≡ 0 → claim_if shape token ≡ Some (token / 2 ^ 24)
 unfolding bits_by claim_if
 zeros_claim shape token t even =
     let high : token / 2 ^ 28 ≡ 0 = eqb-true (token / 2 ^ 28) 0 (both_left (eqb (token / 2 ^ 28) 0) _ t) in
@@ -112,28 +113,28 @@ bare_laid coissued token z =
     let coissue : bit 30 token ≡ 0 = omega arith in
     rw (fields, last, coissue)
 
--- a claim is less than the number that is none
-claim_few : (shape token : ℕ) → claim_by shape token < no_claim
-claim_few shape token = by (eqb (rule_in shape) sizeless)
-  where
-    by : (none : Bool) → pick none (unstated_in shape) (stated_size token) < no_claim
-    by true = omega arith
-    by false = omega arith
-
--- and tells that the bits are laid out
+-- a claim tells that the bits are laid out
 module _ (shape token : ℕ) where
-  pub claim_there : claim_if shape token < no_claim → (bits_by shape token ≡ true) × (claim_if shape token ≡ claim_by shape token)
+  pub claim_there : (claim : ℕ) → claim_if shape token ≡ Some claim → (bits_by shape token ≡ true) × (claim ≡ claim_by shape token)
   unfolding claim_if
-  claim_there less = by (bits_by shape token) less
+  claim_there claim is = by (bits_by shape token) is
     where
-      by : (laid : Bool) → pick laid (claim_by shape token) no_claim < no_claim → (laid ≡ true) × (pick laid (claim_by shape token) no_claim ≡ claim_by shape token)
-      by true h = (refl, refl)
-      by false h = absurd (omega arith)
+      by : (laid : Bool) → pick laid (Some (claim_by shape token)) None ≡ Some claim → (laid ≡ true) × (claim ≡ claim_by shape token)
+      by true h = (refl, cc)
+      by false h = (cc, cc)
 
-  pub claim_none : no_claim ≤ claim_if shape token → bits_by shape token ≡ false
+  pub claim_none : claim_if shape token ≡ None → bits_by shape token ≡ false
   unfolding claim_if
-  claim_none most = by (bits_by shape token) most
+  claim_none none = by (bits_by shape token) none
     where
-      by : (laid : Bool) → no_claim ≤ pick laid (claim_by shape token) no_claim → laid ≡ false
-      by true h = absurd (omega (arith, claim_few shape token))
+      by : (laid : Bool) → pick laid (Some (claim_by shape token)) None ≡ None → laid ≡ false
+      by true h = cc
       by false h = refl
+
+  -- and is below 16
+  pub claim_few : claim_by shape token < 16
+  claim_few = by (eqb (rule_in shape) sizeless)
+    where
+      by : (none : Bool) → pick none (unstated_in shape) (stated_size token) < 16
+      by true = omega arith
+      by false = omega arith

@@ -1,5 +1,5 @@
 -- What an instruction's first token says, by the fields of its opcode's shape.
-use Rattle.std.specs.Prelude.{ℕ, ◌/◌, ◌^◌, Bool, ◌&&◌, ◌||◌, eqb, leb}
+use Rattle.std.specs.Prelude.{ℕ, ◌/◌, ◌^◌, Bool, ◌&&◌, ◌||◌, eqb, leb, Option, Some, None}
 use Rattle.paper.specs.Notation.{bits, bit, pick}
 use Rattle.paper.specs.InstructionToken.{controls_of, stated_size, is_predicated, is_coissued}
 use Rattle.places.specs.Places.{predicated_row}
@@ -28,12 +28,9 @@ bits_by shape token = pick (eqb (rule_in shape) sizeless) (unsized_by (coissue_i
 abbrev pub claim_by : ℕ → ℕ → ℕ
 claim_by shape token = pick (eqb (rule_in shape) sizeless) (unstated_in shape) (stated_size token)
 
--- the same where the bits are laid out, and else a number that is no claim
-abbrev pub no_claim : ℕ
-no_claim = 16
-
-unfoldable pub claim_if : ℕ → ℕ → ℕ
-claim_if shape token = pick (bits_by shape token) (claim_by shape token) no_claim
+-- the same where the bits are laid out
+unfoldable pub claim_if : ℕ → ℕ → Option ℕ
+claim_if shape token = pick (bits_by shape token) (Some (claim_by shape token)) None
 
 unfoldable pub places_by : ℕ → ℕ → ℕ
 places_by shape token =

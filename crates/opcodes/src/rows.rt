@@ -25,9 +25,9 @@ const CLOSES_LOOP: u64 = shapes::LISTED + 10 * shapes::CLASS;
 const CLOSES_REP: u64 = shapes::LISTED + 11 * shapes::CLASS;
 
 // "Bits 23:16 are 1 to 6 for IFC, BREAKC, SETP; 0 to 2 for TEX"
-const COMPARISON: u64 = shapes::COMPARISON * shapes::RULE;
+const COMPARISON: u64 = shapes::Rule::Comparison as u64 * shapes::RULE;
 
-const TEXTURE: u64 = shapes::TEXTURE * shapes::RULE;
+const TEXTURE: u64 = shapes::Rule::Texture as u64 * shapes::RULE;
 
 // The table's last column.
 const ALL: u64 = 0xF;

@@ -2,6 +2,7 @@
 #![tactic(auto)]
 
 ghost use Rattle.std.specs.Prelude.{◌≡◌};
+ghost use Rattle.shapes.specs.Rules.{rule_number};
 ghost use Rattle.shapes.specs.Shape.{places_field, predicable_in, rule_in, coissue_in, unstated_in, class_in};
 
 // A shape's number: the bit of an instruction that may be predicated, where its rule of the controls begins, the bit that is one, the bit of a
@@ -16,18 +17,20 @@ pub const COISSUE: u64 = 0x80_0000_0000;
 
 pub const UNSTATED: u64 = 0x100_0000_0000;
 
-// What an opcode is to the blocks, as specs/Classes.antt numbers it.
+// What an opcode is to the blocks, as specs/Classes.antt numbers it; a number, since what is told of an instruction has it as one too.
 pub const CLASS: u64 = 0x800_0000_0000;
 
 pub const PLAIN: u64 = LISTED + CLASS;
 
-// The rules: "Bits 23:16 are 1 to 6 for IFC, BREAKC, SETP; 0 to 2 for TEX; else 0"; and that of a version without sizes, where controls and
-// size are zero.
-pub const COMPARISON: u64 = 1;
-
-pub const TEXTURE: u64 = 2;
-
-pub const SIZELESS: u64 = 3;
+// The rule that the controls obey, by its number in a shape: "Bits 23:16 are 1 to 6 for IFC, BREAKC, SETP; 0 to 2 for TEX; else 0"; and that
+// of a version without sizes, where controls and size are zero.
+#[derive(Clone, Copy, PartialEq, Eq)]
+pub enum Rule {
+    Zero,
+    Comparison,
+    Texture,
+    Sizeless,
+}
 
 // The fields of a shape: its places, as one number; whether the instruction may be predicated; the rule of the controls; whether it may be
 // co-issued; how many tokens it claims if it states no size; the number of its class.
@@ -43,10 +46,15 @@ pub fn may_be_predicated(shape: u64) -> bool
     shape / PREDICABLE % 2 == 1
 }
 
-pub fn rule_in(shape: u64) -> u64
-    ensures { result ≡ rule_in shape }
+pub fn rule_in(shape: u64) -> Rule
+    ensures { rule_number result ≡ rule_in shape }
 {
-    shape / RULE % (LISTED / RULE)
+    match shape / RULE % (LISTED / RULE) {
+        0 => Rule::Zero,
+        1 => Rule::Comparison,
+        2 => Rule::Texture,
+        _ => Rule::Sizeless,
+    }
 }
 
 pub fn may_be_coissued(shape: u64) -> bool
