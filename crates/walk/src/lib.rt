@@ -4,11 +4,9 @@
 ghost use Rattle.std.specs.Prelude.{◌≡◌};
 ghost use Rattle.paper.specs.Numbers.{told};
 ghost use Rattle.paper.specs.Judgements.{good_instruction};
-ghost use Rattle.paper.specs.Blocks.{class_phase};
-ghost use Rattle.paper.specs.Walk.{counts};
 ghost use Rattle.told.specs.Numbered.{judged_from};
 ghost use Rattle.walk.specs.Kinds.{in_loop_by, allowed_by, stands_by, opens_by, closes_by, next_by};
-ghost use Rattle.walk.specs.Steps.{wrapped, begun, behind_of, on_judged, advanced, goes_on, end_of, verdict_of, told_step, Passes};
+ghost use Rattle.walk.specs.Steps.{begun, behind_of, on_judged, advanced, goes_on, end_of, verdict_of, told_step, Passes};
 
 use paper::{Class, Closer, Instruction, Opener, Reason, Refusal, Single, Verdict, Version};
 
@@ -37,6 +35,7 @@ const DEEPEST: u64 = 11_920_928_955_078_125;
 type Next = Result<Option<u64>, Reason>;
 
 // Whether a LOOP or a REP is among the open blocks.
+// The digits are no slice to iterate over: an iterator of them would take a closure and be no plainer than this loop.
 fn in_loop(kinds: u64) -> bool
     ensures { result ≡ in_loop_by kinds }
 {
@@ -147,32 +146,21 @@ pub fn start() -> State
     }
 }
 
-// "the number of instructions, comments and END not counted"
-fn counted(class: Class, count: usize) -> usize
-    ensures { result ≡ wrapped (counts class count) }
-{
-    match class {
-        Class::One(Single::Comment) | Class::Closes(Closer::End) => count,
-        _ => count.wrapping_add(1),
-    }
-}
-
-// Whether an instruction of this class marks that a PHASE has stood.
-fn marks(class: Class) -> bool
-    ensures { result ≡ class_phase class }
-{
-    matches!(class, Class::One(Single::Phase))
-}
-
-// The state behind an instruction, with these blocks open.
+// The state behind an instruction, with these blocks open: "the number of instructions, comments and END not counted", and a PHASE marked.
 fn behind_of(state: State, instruction: Instruction, kinds: u64) -> State
     ensures { result ≡ behind_of state instruction.size instruction.class kinds }
 {
+    let more = state.count.wrapping_add(1);
+    let (count, phased) = match instruction.class {
+        Class::One(Single::Comment) | Class::Closes(Closer::End) => (state.count, state.phased),
+        Class::One(Single::Phase) => (more, true),
+        _ => (more, state.phased),
+    };
     State {
         at: state.at.wrapping_add(instruction.size).wrapping_add(1),
-        count: counted(instruction.class, state.count),
+        count,
         kinds,
-        phased: state.phased | marks(instruction.class),
+        phased,
     }
 }
 
