@@ -228,7 +228,7 @@ pub fn no_record() -> Record
     empty_record(0, 0)
 }
 
-// The record of an instruction of a class, from its first token and the tokens that it takes behind it.
+// The record of an instruction of a class, by its number in `told`, from its first token and the tokens that it takes behind it.
 pub fn read_record(version: Version, class: u64, first: u32, behind: &[u32]) -> Record
     requires { Readable (row_by class version first) behind.now }
     ensures { result ≡ record_by class version first behind.now }
