@@ -16,7 +16,7 @@ ghost use Rattle.writer.specs.Laid.{raw_fits, destination_fits, source_fits, rel
 ghost use Rattle.writer.specs.Writing.{told_writing, Writes};
 ghost use Rattle.writer.specs.Decided.{Encodes, room, content_after, writing_in, content_in};
 
-use paper::{Named, Reason, Version};
+use paper::{Reason, Version};
 use records::{Operand, Record};
 
 // With its first token a comment is no longer than the longest stream.
@@ -27,13 +27,6 @@ const MOST_ENCODED: usize = 1 + 2 * records::OPERANDS;
 
 // The bit of an instruction token that says predicated.
 const MARK: u32 = 0x1000_0000;
-
-// The next place, or why nothing was written.
-#[derive(Clone, Copy)]
-pub enum Written {
-    Wrote(usize),
-    Refused(Reason),
-}
 
 fn same_operand(a: Operand, b: Operand) -> bool
     ensures { result ≡ same_operand a b }
@@ -387,15 +380,15 @@ fn fits(count: usize, at: usize, room: usize) -> bool
 }
 
 // Tokens and those behind them, written into the part of the buffer that starts at a place, if they fit.
-fn place(tokens: &[u32], behind: &[u32], buffer: &mut [u32], at: usize) -> Written
+fn place(tokens: &[u32], behind: &[u32], buffer: &mut [u32], at: usize) -> Result<usize, Reason>
     ensures { (result ≡ room (tokens.now ++ behind.now) buffer.old at) × (buffer.new ≡ content_after result (tokens.now ++ behind.now) buffer.old at) }
 {
     let count = tokens.len() + behind.len();
     if !fits(count, at, buffer.len()) {
-        return Written::Refused(Reason::Room);
+        return Err(Reason::Room);
     }
     put(&mut buffer[at..], tokens, behind);
-    Written::Wrote(at + count)
+    Ok(at + count)
 }
 
 fn write_known(
@@ -404,31 +397,30 @@ fn write_known(
     body: &[u32],
     buffer: &mut [u32],
     at: usize,
-) -> Written
+) -> Result<usize, Reason>
     ensures { (result ≡ writing_in known instruction body.now buffer.old at) × (buffer.new ≡ content_in known instruction body.now buffer.old at) }
 {
     let mut tokens = [0u32; MOST_ENCODED];
     let count = encode(&mut tokens, known, instruction, body.len());
     if count == 0 {
-        return Written::Refused(Reason::Record);
+        return Err(Reason::Record);
     }
     place(&tokens[..count], body, buffer, at)
 }
 
 // The record, written in the version that this token names into the part of the buffer that starts at a place; a comment with the body that
-// is lent beside it. The next place.
+// is lent beside it. The next place, or why nothing was written.
 pub fn write(
     version: u32,
     instruction: Record,
     body: &[u32],
     buffer: &mut [u32],
     at: usize,
-) -> Written
+) -> Result<usize, Reason>
     ensures { Writes version instruction body.now buffer.old at (told_writing result) buffer.new }
 {
-    let named = versions::version_of(version);
-    match named {
-        Named::Known(known) => write_known(known, instruction, body, buffer, at),
-        Named::Unknown => Written::Refused(Reason::Version),
-    }
+    let Some(known) = versions::version_of(version) else {
+        return Err(Reason::Version);
+    };
+    write_known(known, instruction, body, buffer, at)
 }
