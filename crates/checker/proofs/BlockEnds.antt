@@ -1,17 +1,18 @@
 -- The ways in which a block ends behind its opener: at its own closer, behind an ELSE and a second body, or by a refusal.
+use Rattle.std.specs.Prelude.{Ok, Err}
 use Prim.Native.Nat.{ℕ, suc, ◌+◌, ◌^◌, ◌<◌, ◌≤◌}
-use mathlib.Core.Path.{◌≡◌, refl, ap, sym, subst, ◌∙◌}
-use mathlib.Core.Bool.{Bool, true, false, ◌&&◌}
+use mathlib.Core.Path.{◌≡◌, refl, ap, sym, ◌∙◌}
+use mathlib.Core.Bool.{Bool, true, false}
 use mathlib.Core.List.{List}
 use native.Mathlib.Numerals.{add-one}
 use native.Mathlib.Omega.{arith}
-use lib.Dec.{eqb}
 use lib.ListN.{length}
+use denote.Enum.Bare.{sameb}
 use Rattle.paper.proofs.Bools.{never}
 use Rattle.paper.specs.Notation.{pick}
 use Rattle.paper.specs.Numbers.{refusal}
-use Rattle.paper.specs.Blocks.{loops_in, closer_of}
-use Rattle.paper.specs.Walk.{opened, closes_opener, past_else, elses, closes, counts}
+use Rattle.paper.specs.Blocks.{loops_in}
+use Rattle.paper.specs.Walk.{opened, closes_opener, past_else, elses_opener, counts}
 use Rattle.paper.specs.Stream.{cut_from}
 use Rattle.paper.specs.declared.Version.{Version}
 use Rattle.paper.specs.declared.Class.TheVariants.{Closes}
@@ -21,66 +22,42 @@ use Rattle.paper.specs.declared.Closer.{Closer}
 use Rattle.paper.specs.declared.Closer.TheVariants.{Else, EndIf, EndLoop, EndRep, End}
 use Rattle.paper.specs.declared.Refusal.{Refusal}
 use Rattle.paper.specs.declared.Reason.TheVariants.{Block as BLOCK}
-use Rattle.blocks.specs.Descent
-use Rattle.blocks.specs.Descent.{stopped, broken, passed, refused, on_last, on_first, body_of, block_of}
+use Rattle.paper.specs.contracts.Opener.{the_type as opener_type}
+use Rattle.paper.specs.contracts.Closer.{the_type as closer_type}
+use Rattle.blocks.specs.Descent.{stopped, passed, refused, on_last, on_first, body_of, block_of}
 use Rattle.blocks.proofs.Unfold.{block_opened}
 use Rattle.blocks.specs.Nesting.{count_of}
-use Rattle.checker.specs.declared.BodyEnd.{BodyEnd}
-use Rattle.checker.specs.declared.BodyEnd.TheVariants.{Stopped, Broken}
-use Rattle.checker.specs.declared.ItemEnd.{ItemEnd}
-use Rattle.checker.specs.declared.ItemEnd.TheVariants.{Passed, Refused}
-use Rattle.checker.specs.Closers.{closer_number}
-use Rattle.checker.specs.Ends.{body_end, item_end, Stops, BodyWithin, BlockWithin, BodyIs, BlockIs, Low, last_end}
+use Rattle.checker.specs.declared.Place.{Place}
+use Rattle.checker.specs.declared.Around.{Around}
+use Rattle.checker.specs.declared.Stop.{Stop}
+use Rattle.checker.specs.Ends.{place, around, body_end, block_end, Stops, BlockWithin, BodyEnd, BodyIs, BlockIs, closed_at}
 
-else_test : (o : Opener) (c : Closer) → eqb (closer_number (closer_of o)) 1 && eqb (closer_number c) 0 ≡ elses c (opened o)
-else_test If Else = refl
-else_test If EndIf = refl
-else_test If EndLoop = refl
-else_test If EndRep = refl
-else_test If End = refl
-else_test Loop Else = refl
-else_test Loop EndIf = refl
-else_test Loop EndLoop = refl
-else_test Loop EndRep = refl
-else_test Loop End = refl
-else_test Rep Else = refl
-else_test Rep EndIf = refl
-else_test Rep EndLoop = refl
-else_test Rep EndRep = refl
-else_test Rep End = refl
+-- an ELSE, at an IF
+pub is_if : (o : Opener) → sameb opener_type o If ≡ true → o ≡ If
+is_if If e = refl
+is_if Loop e = never e
+is_if Rep e = never e
 
--- a block's own closer
-own_test : (o : Opener) (c : Closer) → eqb (closer_number c) (closer_number (closer_of o)) ≡ closes_opener c o
-own_test If Else = refl
-own_test If EndIf = refl
-own_test If EndLoop = refl
-own_test If EndRep = refl
-own_test If End = refl
-own_test Loop Else = refl
-own_test Loop EndIf = refl
-own_test Loop EndLoop = refl
-own_test Loop EndRep = refl
-own_test Loop End = refl
-own_test Rep Else = refl
-own_test Rep EndIf = refl
-own_test Rep EndLoop = refl
-own_test Rep EndRep = refl
-own_test Rep End = refl
+pub is_else : (c : Closer) → sameb closer_type c Else ≡ true → c ≡ Else
+is_else Else e = refl
+is_else EndIf e = never e
+is_else EndLoop e = never e
+is_else EndRep e = never e
+is_else End e = never e
 
-last_if : (e : Descent.BodyEnd) → on_last (opened If) e ≡ on_last past_else e
-last_if (stopped c p a) = refl
-last_if (broken r) = refl
+pub not_if : (o : Opener) (c : Closer) → sameb opener_type o If ≡ false → elses_opener c o ≡ false
+not_if If c e = never (sym e)
+not_if Loop c e = refl
+not_if Rep c e = refl
 
--- an ELSE counts, and the body behind it ends where an IF's does
-else_only : (o : Opener) (c : Closer) → elses c (opened o) ≡ true →
-    ((n : ℕ) → counts (Closes c) n ≡ suc n) × ((e : Descent.BodyEnd) → on_last (opened o) e ≡ on_last past_else e)
-else_only If Else e = ((λ n. refl), last_if)
-else_only If EndIf e = never e
-else_only If EndLoop e = never e
-else_only If EndRep e = never e
-else_only If End e = never e
-else_only Loop c e = never e
-else_only Rep c e = never e
+pub not_else : (o : Opener) (c : Closer) → sameb closer_type c Else ≡ false → elses_opener c o ≡ false
+not_else o Else e = never (sym e)
+not_else If EndIf e = refl
+not_else If EndLoop e = refl
+not_else If EndRep e = refl
+not_else If End e = refl
+not_else Loop c e = refl
+not_else Rep c e = refl
 
 -- the closer of a block counts
 own_counts : (o : Opener) (c : Closer) → closes_opener c o ≡ true → (n : ℕ) → counts (Closes c) n ≡ suc n
@@ -92,79 +69,79 @@ own_counts If End e n = never e
 own_counts Loop End e n = never e
 own_counts Rep End e n = never e
 
-module _ (v : Version) (s : List ℕ) (o : Opener) (at : ℕ) where
-  either_end : (test : Bool) (p next n : ℕ) →
-      item_end v s at (pick test (Passed next (n + 1)) (Refused (refusal BLOCK p))) ≡ pick test (passed (cut_from v s next)) (refused (refusal BLOCK p))
-  either_end true p next n = refl
-  either_end false p next n = refl
+module _ (v : Version) (s : List ℕ) (o : Opener) where
+  either_end : (test : Bool) (t : Stop) →
+      block_end v s (pick test (Ok (place t.next (t.place.count + 1))) (Err (refusal BLOCK t.place.at))) ≡
+      pick test (passed (cut_from v s t.next)) (refused (refusal BLOCK t.place.at))
+  either_end true t = refl
+  either_end false t = refl
 
-  last_end_lem : (e : BodyEnd) → item_end v s at (last_end (closer_number (closer_of o)) e) ≡ on_last (opened o) (body_end v s e)
-  last_end_lem (Stopped c p next n) = rw (own_test o c) (either_end (closes c (opened o)) p next n)
-  last_end_lem (Broken r) = refl
-
-  module _ (m place k : ℕ) (after : at ≤ place) (same : k + count_of (cut_from v s place) ≡ m + count_of (cut_from v s at)) where
-    closed_within : (c : Closer) (p next n : ℕ) → Stops v s place k c p next n → (test : Bool) → closes c (opened o) ≡ test →
-        BlockWithin v s at m (pick test (Passed next (n + 1)) (Refused (refusal BLOCK p)))
-    closed_within c p next n h true e =
+  -- from p to a body that stops there, and behind it
+  module _ (p q : Place) (after : p.at ≤ q.at) (same : q.count + count_of (cut_from v s q.at) ≡ p.count + count_of (cut_from v s p.at))
+      (t : Stop) (h : Stops v s q t) where
+    closed_within : (test : Bool) → closes_opener t.closer o ≡ test →
+        BlockWithin v s p (pick test (Ok (place t.next (t.place.count + 1))) (Err (refusal BLOCK t.place.at)))
+    closed_within true e =
         record {
           after = omega (arith, h.after, h.closer);
           inside = h.inside;
           few = omega (arith, h.few, h.closer);
-          counted = omega (arith, h.counted, own_counts o c e (count_of (cut_from v s next)));
+          counted = omega (arith, same, h.counted, own_counts o t.closer e (count_of (cut_from v s t.next)));
         }
-    closed_within c p next n h false e = tt
+    closed_within false e = tt
 
-    last_within : (e : BodyEnd) → BodyWithin v s place k e → BlockWithin v s at m (last_end (closer_number (closer_of o)) e)
-    last_within (Stopped c p next n) h = rw (own_test o c) (closed_within c p next n h (closes c (opened o)) refl)
-    last_within (Broken r) h = tt
+    last_within : BlockWithin v s p (closed_at o t)
+    last_within = closed_within (closes_opener t.closer o) refl
 
--- a body that stops
-module _ {v : Version} {s : List ℕ} {depth : ℕ} {in_loop phased : Bool} {at m : ℕ} {e : BodyEnd} (h : BodyIs v s depth in_loop phased at m e) where
-  pub body_within : {c : Closer} {p next n : ℕ} → e ≡ Stopped c p next n → Stops v s at m c p next n
-  body_within f = subst (BodyWithin v s at m) f h.within
+-- the count leaves room for one more
+pub low : {v : Version} {s : List ℕ} {p : Place} {t : Stop} → length s < 2 ^ 64 → Stops v s p t → t.place.count + 1 < 2 ^ 64
+low fits h = omega (arith, h.few, h.closer, h.inside)
 
-low_within : (v : Version) (s : List ℕ) (at m : ℕ) (e : BodyEnd) → length s < 2 ^ 64 → BodyWithin v s at m e → Low e
-low_within v s at m (Stopped c p next n) fits h = omega (arith, h.few, h.closer, h.inside)
-low_within v s at m (Broken r) fits h = tt
+-- a block in these blocks, whose first body stands inside it
+module _ (phased : Bool) (o : Opener) (b : Around) {v : Version} {s : List ℕ} {p : Place} {inside : Around} (deeper : inside ≡ around (b.depth + 1) (loops_in o b.in_loop)) where
+  opened_first : {e : BodyEnd} → BodyIs v s inside phased p e →
+      on_first o (body_end v s e) (λ a. body_of (suc b.depth) b.in_loop phased a) ≡ block_of b.depth b.in_loop phased o (cut_from v s p.at)
+  opened_first {e} h =
+      let is : body_end v s e ≡ body_of (suc b.depth) (loops_in o b.in_loop) phased (cut_from v s p.at) = rw (deeper, add-one b.depth) at h.is in
+      sym (block_opened b.depth b.in_loop phased o (cut_from v s p.at) ∙ ap (λ x. on_first o x (λ a. body_of (suc b.depth) b.in_loop phased a)) (sym is))
 
-pub low : {v : Version} {s : List ℕ} {depth : ℕ} {in_loop phased : Bool} {at m : ℕ} {e : BodyEnd} →
-    length s < 2 ^ 64 → BodyIs v s depth in_loop phased at m e → {f : BodyEnd} → e ≡ f → Low f
-low {v} {s} {depth} {in_loop} {phased} {at} {m} {e} fits h same = subst Low same (low_within v s at m e fits h.within)
+  pub block_broken : {r : Refusal} → BodyIs v s inside phased p (Err r) → BlockIs v s b phased p o (Err r)
+  block_broken h = record { is = opened_first h; within = tt }
 
-module _ (depth : ℕ) (in_loop phased : Bool) (o : Opener) {v : Version} {s : List ℕ} {at m own : ℕ} (owned : own ≡ closer_number (closer_of o))
-    {loop : Bool} (looped : loop ≡ loops_in o in_loop) {first : BodyEnd} (h : BodyIs v s (depth + 1) loop phased at m first) where
-  opened_first : (e : BodyEnd) → first ≡ e → on_first o (body_end v s e) (λ b. body_of (suc depth) in_loop phased b) ≡ block_of depth in_loop phased o (cut_from v s at)
-  opened_first e same =
-      let is : body_end v s e ≡ body_of (suc depth) (loops_in o in_loop) phased (cut_from v s at) = rw (add-one depth, looped, same) at h.is in
-      sym (block_opened depth in_loop phased o (cut_from v s at) ∙ ap (λ x. on_first o x (λ b. body_of (suc depth) in_loop phased b)) (sym is))
+  module _ {first : Stop} (h : BodyIs v s inside phased p (Ok first)) where
+    at_closer : (test : Bool) → elses_opener first.closer o ≡ test →
+        pick test (on_last past_else (body_of (suc b.depth) b.in_loop phased (cut_from v s first.next)))
+        (on_last (opened o) (stopped first.closer first.place.at (cut_from v s first.next))) ≡
+        block_of b.depth b.in_loop phased o (cut_from v s p.at)
+    at_closer test t = rw (← t) (opened_first h)
 
-  pub block_broken : {f : Refusal} → first ≡ Broken f → BlockIs v s depth in_loop phased at m o (Refused f)
-  block_broken {f} e = record { is = opened_first (Broken f) e; within = tt }
+    pub block_closed : elses_opener first.closer o ≡ false → BlockIs v s b phased p o (closed_at o first)
+    block_closed t =
+        record {
+          is = either_end v s o (closes_opener first.closer o) first ∙ at_closer false t;
+          within = last_within v s o p p (omega arith) refl first h.within;
+        }
 
-  module _ {c : Closer} {p next n : ℕ} (e : first ≡ Stopped c p next n) {number : ℕ} (numbered : number ≡ closer_number c) where
-    at_closer : (test : Bool) → eqb own 1 && eqb number 0 ≡ test →
-        pick test (on_last past_else (body_of (suc depth) in_loop phased (cut_from v s next))) (on_last (opened o) (stopped c p (cut_from v s next))) ≡
-        block_of depth in_loop phased o (cut_from v s at)
-    at_closer test t =
-        let told : elses c (opened o) ≡ test = sym (else_test o c) ∙ (rw (owned, numbered) at t) in
-        rw (← told) (opened_first (Stopped c p next n) e)
+    -- behind the ELSE of an IF, which counts, the second body stands inside it as well
+    module _ (f : o ≡ If) (e : first.closer ≡ Else) {q : Place} (behind : q ≡ place first.next (first.place.count + 1))
+        {again : Around} (as_deep : again ≡ around (b.depth + 1) b.in_loop) where
+      else_on : {x : BodyEnd} → BodyIs v s again phased q x → on_last past_else (body_end v s x) ≡ block_of b.depth b.in_loop phased o (cut_from v s p.at)
+      else_on k = ap (on_last past_else) (rw (as_deep, behind, add-one b.depth) at k.is) ∙ at_closer true (rw (f, e) refl)
 
-    pub block_closed : eqb own 1 && eqb number 0 ≡ false → {r : ItemEnd} → r ≡ last_end own (Stopped c p next n) → BlockIs v s depth in_loop phased at m o r
-    block_closed t f =
-        rw (f, owned) (record {
-          is = last_end_lem v s o at (Stopped c p next n) ∙ at_closer false t;
-          within = last_within v s o at m at m (omega arith) refl (Stopped c p next n) (body_within h e);
-        })
+      pub else_broken : {r : Refusal} → BodyIs v s again phased q (Err r) → BlockIs v s b phased p o (Err r)
+      else_broken k = record { is = else_on k; within = tt }
 
-    pub block_else : eqb own 1 && eqb number 0 ≡ true → {second : BodyEnd} → BodyIs v s (depth + 1) in_loop phased next (n + 1) second →
-        {r : ItemEnd} → r ≡ last_end own second → BlockIs v s depth in_loop phased at m o r
-    block_else t {second} k f =
-        let stops : Stops v s at m c p next n = body_within h e in
-        let only = else_only o c (sym (else_test o c) ∙ (rw (owned, numbered) at t)) in
-        rw (f, owned) (record {
-          is =
-              last_end_lem v s o at second ∙ only.1 (body_end v s second) ∙ ap (on_last past_else) (rw (add-one depth) at k.is) ∙ at_closer true t;
-          within =
-              last_within v s o at m next (n + 1) (omega (arith, stops.after, stops.closer))
-              (omega (arith, stops.counted, only.0 (count_of (cut_from v s next)))) second k.within;
-        })
+      last_is : (t : Stop) → block_end v s (closed_at o t) ≡ on_last past_else (stopped t.closer t.place.at (cut_from v s t.next))
+      last_is t = either_end v s o (closes_opener t.closer o) t ∙ rw f refl
+
+      pub else_closed : {second : Stop} → BodyIs v s again phased q (Ok second) → BlockIs v s b phased p o (closed_at o second)
+      else_closed {second} k =
+          let counted : first.place.count + 1 + count_of (cut_from v s first.next) ≡ p.count + count_of (cut_from v s p.at) =
+          omega (arith, rw e at h.within.counted)
+          in
+          record {
+            is = last_is second ∙ else_on k;
+            within =
+                last_within v s o p (place first.next (first.place.count + 1)) (omega (arith, h.within.after, h.within.closer)) counted second
+                (rw behind at k.within);
+          }

@@ -1,6 +1,7 @@
 -- A body: it passes items and stretches of plain instructions, and ends at a closer or by a refusal.
+use Rattle.std.specs.Prelude.{Ok, Err}
 use Prim.Native.Nat.{ℕ, suc, ◌+◌, ◌%◌, ◌≤◌}
-use mathlib.Core.Path.{◌≡◌, refl, ap, sym, subst, ◌∙◌}
+use mathlib.Core.Path.{◌≡◌, refl, ap, sym, ◌∙◌}
 use mathlib.Core.Bool.{Bool, true, ◌||◌}
 use mathlib.Core.List.{List}
 use native.Mathlib.Nat.{add-zero}
@@ -22,10 +23,10 @@ use Rattle.stretches.specs.Stretch.{told_at, next_at, PlainTo, here, past}
 use Rattle.told.specs.Numbered.{is_plain, tells_phase}
 use Rattle.told.proofs.Numbers.{phase_told}
 use Rattle.stretches.proofs.Stretches.{told_whole, plain_from}
-use Rattle.checker.specs.declared.BodyEnd.TheVariants.{Stopped, Broken}
-use Rattle.checker.specs.declared.ItemEnd.{ItemEnd}
-use Rattle.checker.specs.declared.ItemEnd.TheVariants.{Passed, Closer as Closed, Refused}
-use Rattle.checker.specs.Ends.{item_end, item_at, StartsAt, Onward, Stops, ItemWithin, BodyIs, ItemIs}
+use Rattle.checker.specs.declared.Place.{Place}
+use Rattle.checker.specs.declared.Around.{Around}
+use Rattle.checker.specs.declared.Found.TheVariants.{Item, Closer as Closed}
+use Rattle.checker.specs.Ends.{place, stop, item_end, item_at, StartsAt, Onward, Stops, ItemEnd, BodyIs, ItemIs}
 use Rattle.checker.proofs.ItemEnds.{item_passed}
 
 -- a body is its first item and the rest
@@ -35,48 +36,45 @@ body_on_lem depth in_loop phased (out p) = body_out depth in_loop phased p
 body_on_lem depth in_loop phased (wrong p r) = body_wrong depth in_loop phased p r
 body_on_lem depth in_loop phased (then c p a) = body_then depth in_loop phased c p a
 
--- a body that began at `at` with m counted, behind a PHASE or not, has come to a place, with n counted and the mark of a PHASE set or not
-pub record Reached (v : Version) (s : List ℕ) (depth : ℕ) (in_loop phased : Bool) (at m place n : ℕ) (mark : Bool) : Type 0 where
-  pub after : at ≤ place
-  pub inside : place ≤ length s
-  pub few : n ≤ place
-  pub same : body_of depth in_loop mark (cut_from v s place) ≡ body_of depth in_loop phased (cut_from v s at)
-  pub counted : n + count_of (cut_from v s place) ≡ m + count_of (cut_from v s at)
+-- a body that began at p, behind a PHASE or not, has come to q, with the mark of a PHASE set or not
+pub record Reached (v : Version) (s : List ℕ) (b : Around) (phased : Bool) (p q : Place) (mark : Bool) : Type 0 where
+  pub after : p.at ≤ q.at
+  pub inside : q.at ≤ length s
+  pub few : q.count ≤ q.at
+  pub same : body_of b.depth b.in_loop mark (cut_from v s q.at) ≡ body_of b.depth b.in_loop phased (cut_from v s p.at)
+  pub counted : q.count + count_of (cut_from v s q.at) ≡ p.count + count_of (cut_from v s p.at)
 
-module _ {v : Version} {s : List ℕ} {depth : ℕ} {in_loop phased : Bool} {at m : ℕ} where
-  pub reached : StartsAt s depth at m → Reached v s depth in_loop phased at m at m phased
+module _ {v : Version} {s : List ℕ} {b : Around} {phased : Bool} {p : Place} where
+  pub reached : StartsAt s b.depth p → Reached v s b phased p p phased
   reached h = record { after = omega arith; inside = h.starts; few = h.few; same = refl; counted = refl }
 
-  module _ {place n : ℕ} {mark : Bool} (g : Reached v s depth in_loop phased at m place n mark) {r : ItemEnd} (h : ItemIs v s depth in_loop mark place n r) where
-    further : (r' : ItemEnd) → r ≡ r' →
-        on_item (item_end v s place r') (λ b. body_of depth in_loop (mark || begins_phase (cut_from v s place)) b) ≡ body_of depth in_loop phased (cut_from v s at)
-    further r' e =
-        ap (λ x. on_item x (λ b. body_of depth in_loop (mark || begins_phase (cut_from v s place)) b)) (ap (item_end v s place) (sym e) ∙ h.is)
-        ∙ sym (body_on_lem depth in_loop mark (cut_from v s place)) ∙ g.same
+  module _ {q : Place} {mark : Bool} (g : Reached v s b phased p q mark) where
+    further : {r : ItemEnd} → ItemIs v s b mark q r →
+        on_item (item_end v s q.at r) (λ a. body_of b.depth b.in_loop (mark || begins_phase (cut_from v s q.at)) a) ≡ body_of b.depth b.in_loop phased (cut_from v s p.at)
+    further h =
+        ap (λ x. on_item x (λ a. body_of b.depth b.in_loop (mark || begins_phase (cut_from v s q.at)) a)) h.is
+        ∙ sym (body_on_lem b.depth b.in_loop mark (cut_from v s q.at)) ∙ g.same
 
-    pub item_moves : {next k : ℕ} → r ≡ Passed next k → Onward v s place n next k
-    item_moves e = subst (ItemWithin v s place n) e h.within
-
-    pub reached_on : {next k : ℕ} → r ≡ Passed next k → {phase : Bool} {told : ℕ} → told ≡ told_at v s 0 place → phase ≡ tells_phase told →
-        Reached v s depth in_loop phased at m next k (mark || phase)
-    reached_on {next} {k} e t f =
-        let o : Onward v s place n next k = item_moves e in
-        let cut = cut_at v s place (omega (arith, o.after, o.inside)) in
-        let seen = f ∙ ap tells_phase (t ∙ told_whole v s place)
-        ∙ phase_told (judged v (drop place s)) place (λ i. cut_from v s (place + i)) ∙ ap begins_phase (sym cut) in
+    pub reached_on : {t : Place} → ItemIs v s b mark q (Ok (Item t)) → {phase : Bool} {told : ℕ} → told ≡ told_at v s 0 q.at → phase ≡ tells_phase told →
+        Reached v s b phased p t (mark || phase)
+    reached_on {t} h same f =
+        let o : Onward v s q t = h.within in
+        let cut = cut_at v s q.at (omega (arith, o.after, o.inside)) in
+        let seen = f ∙ ap tells_phase (same ∙ told_whole v s q.at)
+        ∙ phase_told (judged v (drop q.at s)) q.at (λ i. cut_from v s (q.at + i)) ∙ ap begins_phase (sym cut) in
         record {
           after = omega (arith, g.after, o.after);
           inside = o.inside;
           few = o.few;
-          same = rw seen (further (Passed next k) e);
+          same = rw seen (further h);
           counted = omega (arith, g.counted, o.counted);
         }
 
-    pub body_stopped : {c : Closer} {next : ℕ} → r ≡ Closed c next → BodyIs v s depth in_loop phased at m (Stopped c place next n)
-    body_stopped {c} {next} e =
-        let o : Stops v s place n c place next n = subst (ItemWithin v s place n) e h.within in
+    pub body_stopped : {c : Closer} {next : ℕ} → ItemIs v s b mark q (Ok (Closed c next)) → BodyIs v s b phased p (Ok (stop c q next))
+    body_stopped {c} {next} h =
+        let o : Stops v s q (stop c q next) = h.within in
         record {
-          is = further (Closed c next) e;
+          is = further h;
           within = record {
             after = g.after;
             closer = o.closer;
@@ -86,8 +84,8 @@ module _ {v : Version} {s : List ℕ} {depth : ℕ} {in_loop phased : Bool} {at 
           };
         }
 
-    pub body_broken : {f : Refusal} → r ≡ Refused f → BodyIs v s depth in_loop phased at m (Broken f)
-    body_broken {f} e = record { is = further (Refused f) e; within = tt }
+    pub body_broken : {r : Refusal} → ItemIs v s b mark q (Err r) → BodyIs v s b phased p (Err r)
+    body_broken h = record { is = further h; within = tt }
 
 -- a stretch leads on
 pub leads_on : {v : Version} {s : List ℕ} {beyond stop start at n : ℕ} → PlainTo v s beyond stop start at n → start ≤ at
@@ -95,20 +93,20 @@ leads_on here = omega arith
 leads_on (past l plain before) = omega (arith, leads_on l)
 
 -- a body passes a plain instruction wherever it stands, and so a stretch of them
-module _ {v : Version} {s : List ℕ} {depth : ℕ} {in_loop phased : Bool} {at m : ℕ} (begun : StartsAt s depth at m) where
-  pub begins_at : {place n : ℕ} {mark : Bool} → Reached v s depth in_loop phased at m place n mark → StartsAt s depth place n
+module _ {v : Version} {s : List ℕ} {b : Around} {phased : Bool} {p : Place} (begun : StartsAt s b.depth p) where
+  pub begins_at : {q : Place} {mark : Bool} → Reached v s b phased p q mark → StartsAt s b.depth q
   begins_at g = record { depths = begun.depths; starts = g.inside; few = g.few }
 
-  plain_passed : {place n : ℕ} {mark : Bool} → Reached v s depth in_loop phased at m place n mark → is_plain (told_at v s 0 place) ≡ true →
-      Reached v s depth in_loop phased at m (next_at place (told_at v s 0 place)) (n + 1) mark
-  plain_passed {place} {n} {mark} g plain =
-      let two : told_at v s 0 place % 32 ≡ 2 = eqb-true (told_at v s 0 place % 32) 2 plain in
+  plain_passed : {q : Place} {mark : Bool} → Reached v s b phased p q mark → is_plain (told_at v s 0 q.at) ≡ true →
+      Reached v s b phased p (place (next_at q.at (told_at v s 0 q.at)) (q.count + 1)) mark
+  plain_passed {q} {mark} g plain =
+      let two : told_at v s 0 q.at % 32 ≡ 2 = eqb-true (told_at v s 0 q.at % 32) 2 plain in
       rw (two, or_false mark) at
-      (reached_on g (item_passed v (begins_at g, refl) refl (plain_from (told_at v s 0 place) plain) refl refl refl refl) refl refl refl)
+      (reached_on g (item_passed v b (begins_at g, refl) refl (plain_from (told_at v s 0 q.at) plain) refl refl refl refl) refl refl)
 
-  pub stretch_passed : {start k : ℕ} {mark : Bool} → Reached v s depth in_loop phased at m start k mark → {stop place n : ℕ} → PlainTo v s 0 stop start place n →
-      Reached v s depth in_loop phased at m place (k + n) mark
-  stretch_passed {start} {k} g here = rw (add-zero k) g
-  stretch_passed {start} {k} g (past {n} l plain before) =
-      let more : k + suc n ≡ k + n + 1 = omega arith in
+  pub stretch_passed : {q : Place} {mark : Bool} → Reached v s b phased p q mark → {stop at n : ℕ} → PlainTo v s 0 stop q.at at n →
+      Reached v s b phased p (place at (q.count + n)) mark
+  stretch_passed {q} g here = rw (add-zero q.count) g
+  stretch_passed {q} g (past {n} l plain before) =
+      let more : q.count + suc n ≡ q.count + n + 1 = omega arith in
       rw more (plain_passed (stretch_passed g l) plain)

@@ -1,16 +1,18 @@
 -- The ways in which an item ends: one instruction, a block, a closer, a refusal.
-use Prim.Native.Nat.{ℕ, zero, suc, ◌+◌, ◌-◌, ◌<◌, ◌≤◌}
+use Rattle.std.specs.Result.{IsErrAnd}
+use Rattle.std.specs.Prelude.{Result, Ok, Err}
+use Prim.Native.Nat.{ℕ, suc, ◌+◌, ◌-◌, ◌<◌, ◌≤◌}
 use mathlib.Core.Path.{◌≡◌, refl, ap, sym, subst, ◌∙◌}
 use mathlib.Core.Bool.{Bool, true, false}
 use mathlib.Core.List.{List, []}
 use native.Mathlib.Nat.{add-zero}
 use native.Mathlib.Omega.{arith}
-use lib.Dec.{eqb, ltb}
+use lib.Dec.{ltb}
 use lib.ListN.{length, drop, length-drop, drop_of_length-le}
-use borrow.Author.Tests.{lt-ltb, le-ltb, ltb-true, ltb-false, ne_eqb}
+use borrow.Author.Tests.{lt-ltb, le-ltb, ltb-true, ltb-false}
 use Rattle.paper.specs.Numbers.{refusal, moved_by, told_instruction}
 use Rattle.paper.specs.Instruction.{judged}
-use Rattle.paper.specs.Blocks.{then, is_zero, may_stand, most_open}
+use Rattle.paper.specs.Blocks.{then, may_stand, most_open}
 use Rattle.paper.specs.Stream.{cut_from}
 use Rattle.paper.specs.declared.Version.{Version}
 use Rattle.paper.specs.declared.Class.{Class}
@@ -33,15 +35,12 @@ use Rattle.told.specs.Numbered.{judged_from}
 use Rattle.stretches.specs.Stretch.{told_at}
 use Rattle.told.proofs.Numbers.{judged_back}
 use Rattle.stretches.proofs.Stretches.{told_whole}
-use Rattle.checker.specs.declared.ItemEnd.{ItemEnd}
-use Rattle.checker.specs.declared.ItemEnd.TheVariants.{Passed, Closer as Closed, Refused}
-use Rattle.checker.specs.Ends.{item_at, StartsAt, Onward, ItemIs, BlockIs, tally_of}
+use Rattle.checker.specs.declared.Place.{Place}
+use Rattle.checker.specs.declared.Around.{Around}
+use Rattle.checker.specs.declared.Found.TheVariants.{Item, Closer as Closed}
+use Rattle.checker.specs.Ends.{place, item_at, StartsAt, Onward, ItemIs, BlockIs, tally_of}
 use Rattle.paper.proofs.OwnTokens.{good_inside as ends_inside}
 use Rattle.paper.proofs.OneInstruction.{Near, Within, judged_near, judged_bit}
-
-pub zero_test : (n : ℕ) → eqb n 0 ≡ is_zero n
-zero_test zero = refl
-zero_test (suc n) = ne_eqb (suc n) 0 (λ e. omega arith)
 
 tally_counts : (x : Single) (m n : ℕ) → m + tally_of x + n ≡ m + counts (One x) n
 tally_counts Comment m n = omega arith
@@ -62,7 +61,7 @@ tally_one Phase = omega arith
 pub tally_small : (x : Single) {t : ℕ} → t ≡ tally_of x → t ≤ 1
 tally_small x e = omega (arith, tally_one x)
 
-onward : {v : Version} {s : List ℕ} {at m next n place k : ℕ} → Onward v s at m next n → Onward v s next n place k → Onward v s at m place k
+onward : {v : Version} {s : List ℕ} {p q r : Place} → Onward v s p q → Onward v s q r → Onward v s p r
 onward g h =
     record {
       after = omega (arith, g.after, h.after);
@@ -71,6 +70,11 @@ onward g h =
       counted = omega (arith, g.counted, h.counted);
     }
 
+-- what a `?` hands on is the refusal that came
+pub handed_on : {T : Type 0} (r : Result T Refusal) (e : Refusal) → IsErrAnd r (λ f. f ≡ e) → r ≡ Err e
+handed_on (Ok x) e h = absurd h
+handed_on (Err f) e h = ap Err h
+
 -- "no token where an instruction must start" is RUN-OUT at the token count
 out_is : (at : ℕ) (r : Refusal) → bad_instruction (refusal RUN_OUT 0) ≡ bad_instruction r →
     refused (refusal RUN_OUT at) ≡ refused (moved_by (λ p. at + p) r)
@@ -78,51 +82,55 @@ out_is at r e =
     let is : refusal RUN_OUT 0 ≡ r = cc in
     ap (λ n. refused (refusal RUN_OUT n)) (sym (add-zero at)) ∙ ap (λ (x : Refusal). refused (moved_by (λ p. at + p) x)) is
 
-module _ (v : Version) {s : List ℕ} {depth at m told : ℕ} (begun : StartsAt s depth at m × (told ≡ told_at v s 0 at))
+-- at a place p with these blocks around it, of whose instruction this is told
+module _ (v : Version) (b : Around) {s : List ℕ} {p : Place} {told : ℕ} (begun : StartsAt s b.depth p × (told ≡ told_at v s 0 p.at))
     {j : Judged} (e : told_instruction j ≡ told_instruction (judged_from told)) where
-  judged_at : j ≡ judged v (drop at s)
-  judged_at = same_instruction _ _ e ∙ ap judged_from (begun.1 ∙ told_whole v s at) ∙ judged_back (length (drop at s)) (judged v (drop at s)) (judged_bit v (drop at s))
+  judged_at : j ≡ judged v (drop p.at s)
+  judged_at =
+      same_instruction _ _ e ∙ ap judged_from (begun.1 ∙ told_whole v s p.at)
+      ∙ judged_back (length (drop p.at s)) (judged v (drop p.at s)) (judged_bit v (drop p.at s))
 
   -- an instruction that is good by itself
   module _ {size : ℕ} {class : Class} (f : j ≡ good_instruction size class) where
-    pub good_inside : at + 1 + size ≤ length s
-    good_inside = omega (arith, ends_inside size class v s at (sym judged_at ∙ f))
+    pub good_inside : p.at + 1 + size ≤ length s
+    good_inside = omega (arith, ends_inside size class v s p.at (sym judged_at ∙ f))
 
-    cut : cut_from v s at ≡ then class at (cut_from v s (at + 1 + size))
+    cut : cut_from v s p.at ≡ then class p.at (cut_from v s (p.at + 1 + size))
     cut =
-        let next : at + suc size ≡ at + 1 + size = omega arith in
-        cut_at v s at (omega (arith, good_inside)) ∙ rw (← judged_at, f, next) refl
+        let next : p.at + suc size ≡ p.at + 1 + size = omega arith in
+        cut_at v s p.at (omega (arith, good_inside)) ∙ rw (← judged_at, f, next) refl
 
-    begins : (in_loop phased : Bool) → item_at depth in_loop phased (cut_from v s at) ≡ item_of depth in_loop phased class at (cut_from v s (at + 1 + size))
-    begins in_loop phased = ap (item_at depth in_loop phased) cut
+    begins : (phased : Bool) →
+        item_at b.depth b.in_loop phased (cut_from v s p.at) ≡ item_of b.depth b.in_loop phased class p.at (cut_from v s (p.at + 1 + size))
+    begins phased = ap (item_at b.depth b.in_loop phased) cut
 
-    counted : count_of (cut_from v s at) ≡ counts class (count_of (cut_from v s (at + 1 + size)))
+    counted : count_of (cut_from v s p.at) ≡ counts class (count_of (cut_from v s (p.at + 1 + size)))
     unfolding count_of
     counted = ap count_of cut
 
-    pub item_passed : {in_loop phased b : Bool} {x : Single} {t : ℕ} → class ≡ One x → b ≡ may_stand depth in_loop phased x → b ≡ true → t ≡ tally_of x →
-        ItemIs v s depth in_loop phased at m (Passed (at + 1 + size) (m + t))
-    item_passed {in_loop} {phased} {b} {x} {t} g stood held k =
+    pub item_passed : {phased stands : Bool} {x : Single} {t : ℕ} → class ≡ One x → stands ≡ may_stand b.depth b.in_loop phased x → stands ≡ true →
+        t ≡ tally_of x → ItemIs v s b phased p (Ok (Item (place (p.at + 1 + size) (p.count + t))))
+    item_passed {phased} {stands} {x} {t} g stood held k =
         record {
-          is = sym (begins in_loop phased ∙ rw (g, item_one depth in_loop phased x at (cut_from v s (at + 1 + size)), ← stood, held) refl);
+          is = sym (begins phased ∙ rw (g, item_one b.depth b.in_loop phased x p.at (cut_from v s (p.at + 1 + size)), ← stood, held) refl);
           within = record {
             after = omega arith;
             inside = good_inside;
             few = omega (arith, begun.0.few, tally_small x k);
-            counted = rw (k, counted, g) (tally_counts x m (count_of (cut_from v s (at + 1 + size))));
+            counted = rw (k, counted, g) (tally_counts x p.count (count_of (cut_from v s (p.at + 1 + size))));
           };
         }
 
-    pub item_barred : {in_loop phased b : Bool} {x : Single} {r : ItemEnd} → class ≡ One x → b ≡ may_stand depth in_loop phased x → b ≡ false →
-        r ≡ Refused (refusal BLOCK at) → ItemIs v s depth in_loop phased at m r
-    item_barred {in_loop} {phased} {b} {x} g stood failed k =
+    pub item_barred : {phased stands : Bool} {x : Single} {r : Refusal} → class ≡ One x → stands ≡ may_stand b.depth b.in_loop phased x →
+        stands ≡ false → r ≡ refusal BLOCK p.at → ItemIs v s b phased p (Err r)
+    item_barred {phased} {stands} {x} g stood failed k =
         rw k (record {
-          is = sym (begins in_loop phased ∙ rw (g, item_one depth in_loop phased x at (cut_from v s (at + 1 + size)), ← stood, failed) refl);
+          is = sym (begins phased ∙ rw (g, item_one b.depth b.in_loop phased x p.at (cut_from v s (p.at + 1 + size)), ← stood, failed) refl);
           within = tt;
         })
 
     module _ {o : Opener} (g : class ≡ Opens o) where
-      opens : Onward v s at m (at + 1 + size) (m + 1)
+      opens : Onward v s p (place (p.at + 1 + size) (p.count + 1))
       opens =
           record {
             after = omega arith;
@@ -132,30 +140,30 @@ module _ (v : Version) {s : List ℕ} {depth at m told : ℕ} (begun : StartsAt 
           }
 
       -- a block is told of no PHASE
-      block_begins : (in_loop phased : Bool) → ltb depth most_open ≡ true → block_of depth in_loop false o (cut_from v s (at + 1 + size)) ≡ item_at depth in_loop phased (cut_from v s at)
-      block_begins in_loop phased h =
-          block_unphased depth in_loop false phased o (cut_from v s (at + 1 + size))
-          ∙ sym (begins in_loop phased ∙ rw (g, item_opens depth in_loop phased o at (cut_from v s (at + 1 + size)), h) refl)
+      block_begins : (phased : Bool) → ltb b.depth most_open ≡ true →
+          block_of b.depth b.in_loop false o (cut_from v s (p.at + 1 + size)) ≡ item_at b.depth b.in_loop phased (cut_from v s p.at)
+      block_begins phased h =
+          block_unphased b.depth b.in_loop false phased o (cut_from v s (p.at + 1 + size))
+          ∙ sym (begins phased ∙ rw (g, item_opens b.depth b.in_loop phased o p.at (cut_from v s (p.at + 1 + size)), h) refl)
 
-      opened : (in_loop phased : Bool) → ltb depth most_open ≡ true → (r : ItemEnd) → BlockIs v s depth in_loop false (at + 1 + size) (m + 1) o r → ItemIs v s depth in_loop phased at m r
-      opened in_loop phased h (Passed next n) k = record { is = k.is ∙ block_begins in_loop phased h; within = onward opens k.within }
-      opened in_loop phased h (Closed c next) k = absurd k.within
-      opened in_loop phased h (Refused r) k = record { is = k.is ∙ block_begins in_loop phased h; within = tt }
+      module _ (phased : Bool) (h : b.depth < most_open) where
+        pub item_opened : {q : Place} → BlockIs v s b false (place (p.at + 1 + size) (p.count + 1)) o (Ok q) → ItemIs v s b phased p (Ok (Item q))
+        item_opened k = record { is = k.is ∙ block_begins phased (lt-ltb b.depth most_open h); within = onward opens k.within }
 
-      pub item_opened : {in_loop phased : Bool} → depth < most_open → {r : ItemEnd} → BlockIs v s depth in_loop false (at + 1 + size) (m + 1) o r → ItemIs v s depth in_loop phased at m r
-      item_opened {in_loop} {phased} h {r} k = opened in_loop phased (lt-ltb depth most_open h) r k
+        pub block_refused : {r : Refusal} → BlockIs v s b false (place (p.at + 1 + size) (p.count + 1)) o (Err r) → ItemIs v s b phased p (Err r)
+        block_refused k = record { is = k.is ∙ block_begins phased (lt-ltb b.depth most_open h); within = tt }
 
-      pub item_deep : {in_loop phased : Bool} → most_open ≤ depth → {r : ItemEnd} → r ≡ Refused (refusal DEPTH at) → ItemIs v s depth in_loop phased at m r
-      item_deep {in_loop} {phased} h k =
+      pub item_deep : {phased : Bool} → most_open ≤ b.depth → {r : Refusal} → r ≡ refusal DEPTH p.at → ItemIs v s b phased p (Err r)
+      item_deep {phased} h k =
           rw k (record {
-            is = sym (begins in_loop phased ∙ rw (g, item_opens depth in_loop phased o at (cut_from v s (at + 1 + size)), le-ltb depth most_open h) refl);
+            is = sym (begins phased ∙ rw (g, item_opens b.depth b.in_loop phased o p.at (cut_from v s (p.at + 1 + size)), le-ltb b.depth most_open h) refl);
             within = tt;
           })
 
-    pub item_closer : {in_loop phased : Bool} {c : Closer} → class ≡ Closes c → ItemIs v s depth in_loop phased at m (Closed c (at + 1 + size))
-    item_closer {in_loop} {phased} {c} g =
+    pub item_closer : {phased : Bool} {c : Closer} → class ≡ Closes c → ItemIs v s b phased p (Ok (Closed c (p.at + 1 + size)))
+    item_closer {phased} {c} g =
         record {
-          is = sym (begins in_loop phased ∙ rw (g, item_closes depth in_loop phased c at (cut_from v s (at + 1 + size))) refl);
+          is = sym (begins phased ∙ rw (g, item_closes b.depth b.in_loop phased c p.at (cut_from v s (p.at + 1 + size))) refl);
           within = record {
             after = omega arith;
             closer = omega arith;
@@ -167,19 +175,22 @@ module _ (v : Version) {s : List ℕ} {depth at m told : ℕ} (begun : StartsAt 
 
   -- an instruction that is refused by itself
   module _ {r : Refusal} (f : j ≡ bad_instruction r) where
-    pub wrong_inside : at + r.position ≤ length s
+    pub wrong_inside : p.at + r.position ≤ length s
     wrong_inside =
-        let fits : r.position ≤ length (drop at s) - 1 = subst (Within (Near (length (drop at s))) (length (drop at s))) (sym judged_at ∙ f) (judged_near v (drop at s)) in
-        omega (arith, begun.0.starts, length-drop at s)
+        let fits : r.position ≤ length (drop p.at s) - 1 =
+        subst (Within (Near (length (drop p.at s))) (length (drop p.at s))) (sym judged_at ∙ f) (judged_near v (drop p.at s))
+        in
+        omega (arith, begun.0.starts, length-drop p.at s)
 
-    wrong_cut : (in_loop phased test : Bool) → ltb at (length s) ≡ test →
-        item_at depth in_loop phased (cut_from v s at) ≡ refused (moved_by (λ p. at + p) r)
+    wrong_cut : (phased test : Bool) → ltb p.at (length s) ≡ test →
+        item_at b.depth b.in_loop phased (cut_from v s p.at) ≡ refused (moved_by (λ n. p.at + n) r)
     unfolding judged
-    wrong_cut in_loop phased true h = ap (item_at depth in_loop phased) (cut_at v s at (ltb-true at (length s) h)) ∙ rw (← judged_at, f) refl
-    wrong_cut in_loop phased false h =
-        let none : drop at s ≡ [] = drop_of_length-le s (ltb-false at (length s) h) in
-        ap (item_at depth in_loop phased) (cut_none v s at (ltb-false at (length s) h))
-        ∙ out_is at r (ap (judged v) (sym none) ∙ sym judged_at ∙ f)
+    wrong_cut phased true h =
+        ap (item_at b.depth b.in_loop phased) (cut_at v s p.at (ltb-true p.at (length s) h)) ∙ rw (← judged_at, f) refl
+    wrong_cut phased false h =
+        let none : drop p.at s ≡ [] = drop_of_length-le s (ltb-false p.at (length s) h) in
+        ap (item_at b.depth b.in_loop phased) (cut_none v s p.at (ltb-false p.at (length s) h))
+        ∙ out_is p.at r (ap (judged v) (sym none) ∙ sym judged_at ∙ f)
 
-    pub item_wrong : {in_loop phased : Bool} {k : ItemEnd} → k ≡ Refused (moved_by (λ p. at + p) r) → ItemIs v s depth in_loop phased at m k
-    item_wrong {in_loop} {phased} h = rw h (record { is = sym (wrong_cut in_loop phased (ltb at (length s)) refl); within = tt })
+    pub item_wrong : {phased : Bool} → ItemIs v s b phased p (Err (moved_by (λ n. p.at + n) r))
+    item_wrong {phased} = record { is = sym (wrong_cut phased (ltb p.at (length s)) refl); within = tt }

@@ -3,5 +3,6 @@ pub mod ItemEnds
 pub mod BodyEnds
 pub mod BlockEnds
 pub mod Whole
+pub mod Laid
 pub mod OneAnswer
 pub mod AcceptedIsGrammar

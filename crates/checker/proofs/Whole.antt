@@ -1,7 +1,7 @@
 -- From the body behind the version to the verdict of a stream.
 use Rattle.std.specs.Prelude.{Ok, Err}
 use Prim.Native.Nat.{ℕ, ◌+◌, ◌<◌, ◌≤◌}
-use mathlib.Core.Path.{◌≡◌, refl, ap, sym, subst, ◌∙◌}
+use mathlib.Core.Path.{◌≡◌, refl, ap, sym, ◌∙◌}
 use mathlib.Core.Bool.{Bool, true, false}
 use mathlib.Core.List.{List}
 use native.Mathlib.Omega.{arith}
@@ -25,9 +25,9 @@ use Rattle.blocks.proofs.Cutting.{cut_none, cut_at}
 use Rattle.blocks.proofs.WalkIsGrammar.{descent_is_walk}
 use Rattle.blocks.specs.Nesting.{count_of}
 use Rattle.blocks.proofs.Counting.{walked_nesting}
-use Rattle.checker.specs.declared.BodyEnd.{BodyEnd}
-use Rattle.checker.specs.declared.BodyEnd.TheVariants.{Stopped, Broken}
-use Rattle.checker.specs.Ends.{body_end, Stops, BodyWithin, BodyIs, ending}
+use Rattle.checker.specs.declared.Place.{Place}
+use Rattle.checker.specs.declared.Stop.{Stop}
+use Rattle.checker.specs.Ends.{place, around, stop, Stops, BodyIs, ending}
 
 module _ (v : Version) (s : List ℕ) where
   -- tokens behind END
@@ -38,36 +38,36 @@ module _ (v : Version) (s : List ℕ) where
   tail : (k next : ℕ) → next < length s → at_end k (cut_from v s next) ≡ Err (refusal TAIL next)
   tail k next h = ap (at_end k) (cut_at v s next h) ∙ tail_one k next (judged v (drop next s)) (λ n. cut_from v s (next + n))
 
-  module _ (p next n : ℕ) (h : Stops v s 1 0 End p next n) where
+  module _ (p : Place) (next : ℕ) (h : Stops v s (place 1 0) (stop End p next)) where
     -- none
-    whole_count : length s ≤ next → n ≡ count_of (cut_from v s 1)
+    whole_count : length s ≤ next → p.count ≡ count_of (cut_from v s 1)
     unfolding count_of
     whole_count le = omega (arith, h.counted, ap count_of (cut_none v s next le))
 
     at_end_lem : (test : Bool) → ltb next (length s) ≡ test →
-        pick test (Err (refusal TAIL next)) (Ok n) ≡ at_end (count_of (cut_from v s 1)) (cut_from v s next)
+        pick test (Err (refusal TAIL next)) (Ok p.count) ≡ at_end (count_of (cut_from v s 1)) (cut_from v s next)
     at_end_lem true e = sym (tail (count_of (cut_from v s 1)) next (ltb-true next (length s) e))
     at_end_lem false e =
         let le : length s ≤ next = ltb-false next (length s) e in
         ap Ok (whole_count le) ∙ sym (ap (at_end (count_of (cut_from v s 1))) (cut_none v s next le))
 
-  stream_end : (c : Closer) (p next n : ℕ) → Stops v s 1 0 c p next n →
-      ending (length s) c p next n ≡ on_stream (count_of (cut_from v s 1)) (stopped c p (cut_from v s next))
-  stream_end Else p next n h = refl
-  stream_end EndIf p next n h = refl
-  stream_end EndLoop p next n h = refl
-  stream_end EndRep p next n h = refl
-  stream_end End p next n h = at_end_lem p next n h (ltb next (length s)) refl
+  stream_end : (c : Closer) (p : Place) (next : ℕ) → Stops v s (place 1 0) (stop c p next) →
+      ending (length s) (stop c p next) ≡ on_stream (count_of (cut_from v s 1)) (stopped c p.at (cut_from v s next))
+  stream_end Else p next h = refl
+  stream_end EndIf p next h = refl
+  stream_end EndLoop p next h = refl
+  stream_end EndRep p next h = refl
+  stream_end End p next h = at_end_lem p next h (ltb next (length s)) refl
 
   whole : on_stream (count_of (cut_from v s 1)) (body_of 0 false false (cut_from v s 1)) ≡ walked v s
   unfolding descended
   whole = descent_is_walk (count_of (cut_from v s 1)) (cut_from v s 1) ∙ sym (walked_nesting v s)
 
-module _ {v : Version} {s : List ℕ} {r : BodyEnd} (h : BodyIs v s 0 false false 1 0 r) where
-  pub stream_stopped : {c : Closer} {p next n : ℕ} → r ≡ Stopped c p next n → ending (length s) c p next n ≡ walked v s
-  stream_stopped {c} {p} {next} {n} e =
-      stream_end v s c p next n (subst (BodyWithin v s 1 0) e h.within)
-      ∙ ap (on_stream (count_of (cut_from v s 1))) (ap (body_end v s) (sym e) ∙ h.is) ∙ whole v s
+module _ {v : Version} {s : List ℕ} where
+  pub stream_stopped : {t : Stop} → BodyIs v s (around 0 false) false (place 1 0) (Ok t) → ending (length s) t ≡ walked v s
+  stream_stopped {t} h =
+      stream_end v s t.closer t.place t.next h.within
+      ∙ ap (on_stream (count_of (cut_from v s 1))) h.is ∙ whole v s
 
-  pub stream_broken : {f : Refusal} → r ≡ Broken f → Err f ≡ walked v s
-  stream_broken e = ap (on_stream (count_of (cut_from v s 1))) (ap (body_end v s) (sym e) ∙ h.is) ∙ whole v s
+  pub stream_broken : {r : Refusal} → BodyIs v s (around 0 false) false (place 1 0) (Err r) → Err r ≡ walked v s
+  stream_broken h = ap (on_stream (count_of (cut_from v s 1))) h.is ∙ whole v s

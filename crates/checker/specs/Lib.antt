@@ -1,4 +1,3 @@
 -- What the functions of the descent give back, and what an accepted stream is.
-pub mod Closers
 pub mod Ends
 pub mod Accepted

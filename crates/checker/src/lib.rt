@@ -1,78 +1,81 @@
 // The check of a stream, by descent: document 01, "Blocks". A body calls item, an item calls block, a block calls body.
 #![tactic(auto)]
 
-ghost use Rattle.std.specs.Prelude.{◌≡◌, false, ◌+◌, ◌≤◌, length};
-ghost use Rattle.paper.specs.Numbers.{refusal, refusal_at_bit, told};
+ghost use Rattle.std.specs.Prelude.{◌≡◌, false, ◌+◌, ◌^◌, ◌<◌, ◌≤◌, length};
+ghost use Rattle.paper.specs.Numbers.{told};
 ghost use Rattle.paper.specs.Blocks.{may_stand, loops_in, closer_of};
-ghost use Rattle.checker.specs.Closers.{closer_number};
 ghost use Rattle.paper.specs.Stream.{walked, checked};
 ghost use Rattle.stretches.specs.Stretch.{told_at};
-ghost use Rattle.checker.specs.Ends.{StartsAt, BodyIs, ItemIs, BlockIs, Low, tally_of, last_end, ending};
+ghost use Rattle.checker.specs.Ends.{around, place, StartsAt, BodyIs, ItemIs, BlockIs, tally_of, closed_at, ending};
 
-use paper::{Class, Closer, Judged, Named, Opener, Reason, Refusal, Single, Verdict, Version};
+use paper::{Class, Closer, Opener, Reason, Refusal, Single, Verdict, Version};
 
 // "At most 24 blocks are open."
 const MOST_OPEN: usize = 24;
 
-// The closers, by the numbers of the definition of the walk.
-const ELSE: u32 = 0;
-
-const END_IF: u32 = 1;
-
-const END_LOOP: u32 = 2;
-
-const END_REP: u32 = 3;
-
-const END: u32 = 4;
-
-// A body stops at a closer: its position, the position behind it, and the count of the instructions before it. Or it is refused.
+// A place in a stream: a position, and the count of the instructions before it.
 #[derive(Clone, Copy)]
-enum BodyEnd {
-    Stopped(Closer, usize, usize, usize),
-    Broken(Refusal),
+struct Place {
+    at: usize,
+    count: usize,
 }
 
-// An item is passed, with the position behind it and the count up to there; there is no item but a closer, and the position behind
-// that; or it is refused.
+// The blocks around an item: how many are open, and whether a LOOP or a REP is among them.
 #[derive(Clone, Copy)]
-enum ItemEnd {
-    Passed(usize, usize),
+struct Around {
+    depth: usize,
+    in_loop: bool,
+}
+
+impl Around {
+    // Inside a block there.
+    fn inside(self, opener: Opener) -> Around
+        requires { self.depth + 1 < 2 ^ 64 }
+        ensures { result ≡ around (self.depth + 1) (loops_in opener self.in_loop) }
+    {
+        Around {
+            depth: self.depth + 1,
+            in_loop: loops_in(opener, self.in_loop),
+        }
+    }
+}
+
+// Where a body stops: the closer, its place, and the position behind it.
+#[derive(Clone, Copy)]
+struct Stop {
+    closer: Closer,
+    place: Place,
+    next: usize,
+}
+
+impl Stop {
+    // Behind the closer of a block, which counts.
+    fn behind(self) -> Place
+        requires { self.place.count + 1 < 2 ^ 64 }
+        ensures { result ≡ place self.next (self.place.count + 1) }
+    {
+        Place {
+            at: self.next,
+            count: self.place.count + 1,
+        }
+    }
+}
+
+// What is found at a place of a body: an item, which is passed up to the place behind it, or the closer, and the position behind it.
+#[derive(Clone, Copy)]
+enum Found {
+    Item(Place),
     Closer(Closer, usize),
-    Refused(Refusal),
 }
 
-fn refused_item(reason: Reason, position: usize, detail: usize) -> ItemEnd
-    ensures { result ≡ ItemEnd.Refused (refusal_at_bit reason position detail) }
-{
-    let refused = Refusal {
-        reason,
-        position,
-        detail,
-    };
-    ItemEnd::Refused(refused)
-}
-
-fn refused(reason: Reason, position: usize) -> Verdict
-    ensures { result ≡ Verdict.Refused (refusal reason position) }
-{
-    let refused = Refusal {
-        reason,
-        position,
-        detail: 0,
-    };
-    Verdict::Refused(refused)
-}
-
-fn may_stand(single: Single, depth: usize, in_loop: bool, phased: bool) -> bool
-    ensures { result ≡ may_stand depth in_loop phased single }
+fn may_stand(single: Single, around: Around, phased: bool) -> bool
+    ensures { result ≡ may_stand around.depth around.in_loop phased single }
 {
     match single {
-        Single::Comment => true,
-        Single::Plain => true,
-        Single::Break => in_loop,
-        Single::Label => depth == 0,
-        Single::Return => depth == 0,
-        Single::Phase => (depth == 0) & !phased,
+        Single::Comment | Single::Plain => true,
+        Single::Break => around.in_loop,
+        Single::Label | Single::Return => around.depth == 0,
+        Single::Phase => around.depth == 0 && !phased,
     }
 }
 
@@ -80,14 +83,7 @@ fn may_stand(single: Single, depth: usize, in_loop: bool, phased: bool) -> bool
 fn tally(single: Single) -> usize
     ensures { result ≡ tally_of single }
 {
-    match single {
-        Single::Comment => 0,
-        Single::Plain => 1,
-        Single::Break => 1,
-        Single::Label => 1,
-        Single::Return => 1,
-        Single::Phase => 1,
-    }
+    if single == Single::Comment { 0 } else { 1 }
 }
 
 fn loops_in(opener: Opener, in_loop: bool) -> bool
@@ -95,93 +91,59 @@ fn loops_in(opener: Opener, in_loop: bool) -> bool
 {
     match opener {
         Opener::If => in_loop,
-        Opener::Loop => true,
-        Opener::Rep => true,
+        Opener::Loop | Opener::Rep => true,
     }
 }
 
-fn closer_number(closer: Closer) -> u32
-    ensures { result ≡ closer_number closer }
-{
-    match closer {
-        Closer::Else => ELSE,
-        Closer::EndIf => END_IF,
-        Closer::EndLoop => END_LOOP,
-        Closer::EndRep => END_REP,
-        Closer::End => END,
-    }
-}
-
-// The number of the closer that ends a block.
-fn own_closer(opener: Opener) -> u32
-    ensures { result ≡ closer_number (closer_of opener) }
+// The closer that ends a block.
+fn own_closer(opener: Opener) -> Closer
+    ensures { result ≡ closer_of opener }
 {
     match opener {
-        Opener::If => END_IF,
-        Opener::Loop => END_LOOP,
-        Opener::Rep => END_REP,
+        Opener::If => Closer::EndIf,
+        Opener::Loop => Closer::EndLoop,
+        Opener::Rep => Closer::EndRep,
     }
 }
 
-// The end of a block, where its last body ends and must end at the closer of this number.
-fn close(end: BodyEnd, own: u32) -> ItemEnd
-    requires { Low end }
-    ensures { result ≡ last_end own end }
+// Behind a block whose last body stops here, which must be at the block's own closer.
+fn close(opener: Opener, stop: Stop) -> Result<Place, Refusal>
+    requires { stop.place.count + 1 < 2 ^ 64 }
+    ensures { result ≡ closed_at opener stop }
 {
-    match end {
-        BodyEnd::Stopped(closer, position, next, count) => {
-            if closer_number(closer) == own {
-                return ItemEnd::Passed(next, count + 1);
-            }
-            refused_item(Reason::Block, position, 0)
-        }
-        BodyEnd::Broken(refusal) => ItemEnd::Refused(refusal),
+    if stop.closer == own_closer(opener) {
+        return Ok(stop.behind());
     }
+    Err(Refusal::at(stop.place.at, Reason::Block))
 }
 
 // A row of items, up to the closer behind it. A plain instruction may stand anywhere, so that a stretch of them is passed in one call.
 // Whether a PHASE has stood is marked as the row is passed; none stands in a block, so that no body is told of one that stood before
-// it, and no answer tells of it.
+// it, and no answer tells of it. The version and the tokens stay two parameters, no struct, as the judge below takes them apart.
 #[cycle(block_body_item)]
-fn body(
-    version: Version,
-    tokens: &[u32],
-    at: usize,
-    count: usize,
-    depth: usize,
-    in_loop: bool,
-) -> BodyEnd
-    requires { StartsAt tokens.now depth at count }
-    ensures { BodyIs version tokens.now depth in_loop false at count result }
+fn body(version: Version, tokens: &[u32], start: Place, around: Around) -> Result<Stop, Refusal>
+    requires { StartsAt tokens.now around.depth start }
+    ensures { BodyIs version tokens.now around false start result }
 {
-    let mut place = at;
-    let mut counted = count;
-    let mut marked = false;
+    let mut place = start;
+    let mut phased = false;
     loop {
-        let stretch = stretches::judge_stretch(version, tokens, place, tokens.len(), 0);
-        let here = stretch.at;
-        let more = counted + stretch.count;
-        let end = item(
-            version,
-            tokens,
-            here,
-            more,
-            depth,
-            in_loop,
-            marked,
-            stretch.told,
-        );
-        match end {
-            ItemEnd::Passed(next, further) => {
-                place = next;
-                counted = further;
-                marked = marked | told::is_phase(stretch.told);
+        let stretch = stretches::judge_stretch(version, tokens, place.at, tokens.len(), 0);
+        let here = Place {
+            at: stretch.at,
+            count: place.count + stretch.count,
+        };
+        match item(version, tokens, here, around, phased, stretch.told)? {
+            Found::Item(behind) => {
+                place = behind;
+                phased |= told::is_phase(stretch.told);
             }
-            ItemEnd::Closer(closer, next) => {
-                return BodyEnd::Stopped(closer, here, next, more);
-            }
-            ItemEnd::Refused(refusal) => {
-                return BodyEnd::Broken(refusal);
+            Found::Closer(closer, next) => {
+                return Ok(Stop {
+                    closer,
+                    place: here,
+                    next,
+                });
             }
         }
     }
@@ -192,40 +154,46 @@ fn body(
 fn item(
     version: Version,
     tokens: &[u32],
-    at: usize,
-    count: usize,
-    depth: usize,
-    in_loop: bool,
+    place: Place,
+    around: Around,
     phased: bool,
     told: u64,
-) -> ItemEnd
-    requires { StartsAt tokens.now depth at count × (told ≡ told_at version tokens.now 0 at) }
-    ensures { ItemIs version tokens.now depth in_loop phased at count result }
+) -> Result<Found, Refusal>
+    requires { StartsAt tokens.now around.depth place × (told ≡ told_at version tokens.now 0 place.at) }
+    ensures { ItemIs version tokens.now around phased place result }
 {
-    let judged = told::judged_of(told);
-    match judged {
-        Judged::Good(size, class) => {
-            let next = at + 1 + size;
-            match class {
-                Class::One(single) => {
-                    if may_stand(single, depth, in_loop, phased) {
-                        return ItemEnd::Passed(next, count + tally(single));
-                    }
-                    refused_item(Reason::Block, at, 0)
-                }
-                Class::Opens(opener) => {
-                    if depth < MOST_OPEN {
-                        return block(version, tokens, next, count + 1, opener, depth, in_loop);
-                    }
-                    refused_item(Reason::Depth, at, 0)
-                }
-                Class::Closes(closer) => ItemEnd::Closer(closer, next),
+    let instruction = match told::judged_of(told) {
+        Ok(instruction) => instruction,
+        Err(refusal) => {
+            return Err(Refusal {
+                position: place.at + refusal.position,
+                ..refusal
+            });
+        }
+    };
+    let next = place.at + 1 + instruction.size;
+    match instruction.class {
+        Class::One(single) => {
+            if may_stand(single, around, phased) {
+                return Ok(Found::Item(Place {
+                    at: next,
+                    count: place.count + tally(single),
+                }));
             }
+            Err(Refusal::at(place.at, Reason::Block))
         }
-        Judged::Refused(refusal) => {
-            let reason = refusal.reason;
-            refused_item(reason, at + refusal.position, refusal.detail)
+        Class::Opens(opener) => {
+            if around.depth < MOST_OPEN {
+                let inside = Place {
+                    at: next,
+                    count: place.count + 1,
+                };
+                let behind = block(version, tokens, inside, around, opener)?;
+                return Ok(Found::Item(behind));
+            }
+            Err(Refusal::at(place.at, Reason::Depth))
         }
+        Class::Closes(closer) => Ok(Found::Closer(closer, next)),
     }
 }
 
@@ -234,47 +202,32 @@ fn item(
 fn block(
     version: Version,
     tokens: &[u32],
-    at: usize,
-    count: usize,
+    start: Place,
+    around: Around,
     opener: Opener,
-    depth: usize,
-    in_loop: bool,
-) -> ItemEnd
-    requires { StartsAt tokens.now (depth + 1) at count }
-    ensures { BlockIs version tokens.now depth in_loop false at count opener result }
+) -> Result<Place, Refusal>
+    requires { StartsAt tokens.now (around.depth + 1) start }
+    ensures { BlockIs version tokens.now around false start opener result }
 {
-    let own = own_closer(opener);
-    let first = body(
-        version,
-        tokens,
-        at,
-        count,
-        depth + 1,
-        loops_in(opener, in_loop),
-    );
-    match first {
-        BodyEnd::Stopped(closer, position, next, counted) => {
-            if (own == END_IF) & (closer_number(closer) == ELSE) {
-                let second = body(version, tokens, next, counted + 1, depth + 1, in_loop);
-                return close(second, own);
-            }
-            close(first, own)
-        }
-        BodyEnd::Broken(refusal) => ItemEnd::Refused(refusal),
+    let first = body(version, tokens, start, around.inside(opener))?;
+    if opener == Opener::If && first.closer == Closer::Else {
+        let second = body(version, tokens, first.behind(), around.inside(Opener::If))?;
+        return close(opener, second);
     }
+    close(opener, first)
 }
 
-// The verdict where the body of a stream has ended: END, and nothing behind it.
-fn finish(tokens: &[u32], closer: Closer, position: usize, next: usize, count: usize) -> Verdict
-    ensures { result ≡ ending (length tokens.now) closer position next count }
+// The verdict where the body of a stream has stopped: END, and nothing behind it.
+fn finish(tokens: &[u32], stop: Stop) -> Verdict
+    ensures { result ≡ ending (length tokens.now) stop }
 {
-    if closer_number(closer) == END {
-        if next < tokens.len() {
-            return refused(Reason::Tail, next);
-        }
-        return Verdict::Accepted(count);
+    if stop.closer != Closer::End {
+        return Err(Refusal::at(stop.place.at, Reason::Block));
     }
-    refused(Reason::Block, position)
+    if stop.next < tokens.len() {
+        return Err(Refusal::at(stop.next, Reason::Tail));
+    }
+    Ok(stop.place.count)
 }
 
 // A stream from behind its version on: "a body and END".
@@ -282,25 +235,24 @@ fn check_behind(version: Version, tokens: &[u32]) -> Verdict
     requires { 1 ≤ length tokens.now }
     ensures { result ≡ walked version tokens.now }
 {
-    let whole = body(version, tokens, 1, 0, 0, false);
-    match whole {
-        BodyEnd::Stopped(closer, position, next, count) => finish(
-            tokens, closer, position, next, count,
-        ),
-        BodyEnd::Broken(refusal) => Verdict::Refused(refusal),
-    }
+    let start = Place { at: 1, count: 0 };
+    let around = Around {
+        depth: 0,
+        in_loop: false,
+    };
+    let stop = body(version, tokens, start, around)?;
+    finish(tokens, stop)
 }
 
 // The check of a stream, which may be any part of a slice: "LENGTH, VERSION, then instruction by instruction".
 pub fn check(tokens: &[u32]) -> Verdict
     ensures { told result ≡ checked tokens.now }
 {
-    if (paper::FEWEST_TOKENS <= tokens.len()) & (tokens.len() <= paper::MOST_TOKENS) {
-        let named = versions::version_of(tokens[0]);
-        return match named {
-            Named::Known(version) => check_behind(version, tokens),
-            Named::Unknown => refused(Reason::Version, 0),
-        };
+    if !(paper::FEWEST_TOKENS..=paper::MOST_TOKENS).contains(&tokens.len()) {
+        return Err(Refusal::at(0, Reason::Length));
     }
-    refused(Reason::Length, 0)
+    let Some(version) = versions::version_of(tokens[0]) else {
+        return Err(Refusal::at(0, Reason::Version));
+    };
+    check_behind(version, tokens)
 }
