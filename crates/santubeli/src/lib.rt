@@ -10,14 +10,14 @@ ghost use Rattle.writer.specs.Writing.{told_writing, Writes};
 ghost use Rattle.notes.specs.Noted.{noted};
 ghost use Rattle.edit.specs.Edit.{edited_in, buffer_after};
 
-use edit::Edited;
-use notes::Noted;
-use paper::Verdict;
+use edit::{Edited, Outcome};
+use notes::Note;
+use paper::{Reason, Refusal, Verdict};
+use reader::Reading;
 use records::Record;
-use writer::Written;
 
 #[repr(C)]
-#[derive(Clone, Copy)]
+#[derive(Clone, Copy, Default)]
 pub struct Answer {
     pub number: u32,
     pub position: usize,
@@ -30,23 +30,17 @@ fn answer_of(tokens: usize, verdict: Verdict) -> Answer
     ensures { result ≡ answer_of tokens verdict }
 {
     match verdict {
-        Verdict::Accepted(instructions) => Answer {
-            number: 0,
-            position: 0,
-            detail: 0,
+        Ok(instructions) => Answer {
             tokens,
             instructions,
+            ..Answer::default()
         },
-        Verdict::Refused(refusal) => {
-            let reason = refusal.reason;
-            Answer {
-                number: paper::number_of(reason),
-                position: refusal.position,
-                detail: refusal.detail,
-                tokens: 0,
-                instructions: 0,
-            }
-        }
+        Err(refusal) => Answer {
+            number: paper::number_of(refusal.reason),
+            position: refusal.position,
+            detail: refusal.detail,
+            ..Answer::default()
+        },
     }
 }
 
@@ -54,16 +48,14 @@ fn answer_of(tokens: usize, verdict: Verdict) -> Answer
 pub extern "C" fn santubeli_check(bytes: &[u8]) -> Answer
     ensures { result ≡ answer_of (length bytes.now / 4) (bytes_verdict bytes.now) }
 {
-    let verdict = byte_checker::check_bytes(bytes);
-    answer_of(bytes.len() / 4, verdict)
+    answer_of(bytes.len() / 4, byte_checker::check_bytes(bytes))
 }
 
 #[unsafe(no_mangle)]
 pub extern "C" fn santubeli_check_tokens(tokens: &[u32]) -> Answer
     ensures { result ≡ answer_of (length tokens.now) (verdict tokens.now) }
 {
-    let verdict = checker::check(tokens);
-    answer_of(tokens.len(), verdict)
+    answer_of(tokens.len(), checker::check(tokens))
 }
 
 #[repr(C)]
@@ -76,36 +68,37 @@ pub struct ReadAnswer {
     pub instruction: Record,
 }
 
+// No record has a default: a refusal's is the reader's record of nothing.
+fn read_answer_of(reading: Result<Reading, Refusal>) -> ReadAnswer
+    ensures { result ≡ read_answer_of reading }
+{
+    match reading {
+        Ok(reading) => ReadAnswer {
+            number: 0,
+            position: 0,
+            detail: 0,
+            next: reading.next,
+            instruction: reading.instruction,
+        },
+        Err(refusal) => ReadAnswer {
+            number: paper::number_of(refusal.reason),
+            position: refusal.position,
+            detail: refusal.detail,
+            next: 0,
+            instruction: records::no_record(),
+        },
+    }
+}
+
 #[unsafe(no_mangle)]
 pub extern "C" fn santubeli_read(version: u32, tokens: &[u32], at: usize) -> ReadAnswer
     ensures { result ≡ read_answer_of (reading version tokens.now at) }
 {
-    let read = reader::read(version, tokens, at);
-    let instruction = read.instruction;
-    let answer = read.answer;
-    match answer {
-        reader::Answer::Got(next) => ReadAnswer {
-            number: 0,
-            position: 0,
-            detail: 0,
-            next,
-            instruction,
-        },
-        reader::Answer::Refused(refusal) => {
-            let reason = refusal.reason;
-            ReadAnswer {
-                number: paper::number_of(reason),
-                position: refusal.position,
-                detail: refusal.detail,
-                next: 0,
-                instruction,
-            }
-        }
-    }
+    read_answer_of(reader::read(version, tokens, at))
 }
 
 #[repr(C)]
-#[derive(Clone, Copy)]
+#[derive(Clone, Copy, Default)]
 pub struct NoteAnswer {
     pub number: u32,
     pub position: usize,
@@ -116,31 +109,23 @@ pub struct NoteAnswer {
     pub next: usize,
 }
 
-fn note_answer_of(noted: Noted) -> NoteAnswer
+fn note_answer_of(noted: Result<Note, Refusal>) -> NoteAnswer
     ensures { result ≡ note_answer_of noted }
 {
     match noted {
-        Noted::Found(note) => NoteAnswer {
-            number: 0,
-            position: 0,
-            detail: 0,
+        Ok(note) => NoteAnswer {
             notes: note.notes,
             at: note.at,
             comments: note.comments,
             next: note.next,
+            ..NoteAnswer::default()
         },
-        Noted::Refused(refusal) => {
-            let reason = refusal.reason;
-            NoteAnswer {
-                number: paper::number_of(reason),
-                position: refusal.position,
-                detail: refusal.detail,
-                notes: 0,
-                at: 0,
-                comments: 0,
-                next: 0,
-            }
-        }
+        Err(refusal) => NoteAnswer {
+            number: paper::number_of(refusal.reason),
+            position: refusal.position,
+            detail: refusal.detail,
+            ..NoteAnswer::default()
+        },
     }
 }
 
@@ -148,12 +133,11 @@ fn note_answer_of(noted: Noted) -> NoteAnswer
 pub extern "C" fn santubeli_note(version: u32, tokens: &[u32], at: usize) -> NoteAnswer
     ensures { result ≡ note_answer_of (noted version tokens.now at) }
 {
-    let noted = notes::next_note(version, tokens, at);
-    note_answer_of(noted)
+    note_answer_of(notes::next_note(version, tokens, at))
 }
 
 #[repr(C)]
-#[derive(Clone, Copy)]
+#[derive(Clone, Copy, Default)]
 pub struct EditAnswer {
     pub number: u32,
     pub position: usize,
@@ -162,34 +146,25 @@ pub struct EditAnswer {
     pub tokens: usize,
 }
 
-fn edit_answer_of(edited: Edited) -> EditAnswer
+fn edit_answer_of(edited: Outcome) -> EditAnswer
     ensures { result ≡ edit_answer_of edited }
 {
     match edited {
-        Edited::Joined(tokens) => EditAnswer {
-            number: 0,
-            position: 0,
-            detail: 0,
+        Ok(Edited::Joined(tokens)) => EditAnswer {
             joined: 1,
             tokens,
+            ..EditAnswer::default()
         },
-        Edited::Accepted(tokens) => EditAnswer {
-            number: 0,
-            position: 0,
-            detail: 0,
-            joined: 0,
+        Ok(Edited::Accepted(tokens)) => EditAnswer {
             tokens,
+            ..EditAnswer::default()
         },
-        Edited::Refused(refusal) => {
-            let reason = refusal.reason;
-            EditAnswer {
-                number: paper::number_of(reason),
-                position: refusal.position,
-                detail: refusal.detail,
-                joined: 0,
-                tokens: 0,
-            }
-        }
+        Err(refusal) => EditAnswer {
+            number: paper::number_of(refusal.reason),
+            position: refusal.position,
+            detail: refusal.detail,
+            ..EditAnswer::default()
+        },
     }
 }
 
@@ -204,31 +179,28 @@ pub extern "C" fn santubeli_edit(
     ensures told { result ≡ edit_answer_of (edited_in buffer.old n i j run.now) }
     ensures held { buffer.new ≡ buffer_after buffer.old n i j run.now }
 {
-    let edited = editor::edit(buffer, n, i, j, run);
-    edit_answer_of(edited)
+    edit_answer_of(editor::edit(buffer, n, i, j, run))
 }
 
 #[repr(C)]
-#[derive(Clone, Copy)]
+#[derive(Clone, Copy, Default)]
 pub struct WriteAnswer {
     pub number: u32,
     pub position: usize,
     pub next: usize,
 }
 
-fn write_answer_of(written: Written) -> WriteAnswer
+fn write_answer_of(written: Result<usize, Reason>) -> WriteAnswer
     ensures { write_told result ≡ told_writing written }
 {
     match written {
-        Written::Wrote(next) => WriteAnswer {
-            number: 0,
-            position: 0,
+        Ok(next) => WriteAnswer {
             next,
+            ..WriteAnswer::default()
         },
-        Written::Refused(reason) => WriteAnswer {
+        Err(reason) => WriteAnswer {
             number: paper::number_of(reason),
-            position: 0,
-            next: 0,
+            ..WriteAnswer::default()
         },
     }
 }

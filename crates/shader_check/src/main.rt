@@ -9,7 +9,7 @@ mod failure;
 mod fault;
 mod input;
 
-use notes::{Note, Noted};
+use notes::Note;
 use paper::{Reason, Refusal, Verdict};
 use std::io;
 use std::process::ExitCode;
@@ -22,11 +22,13 @@ fn print_accepted(rt: &impl Print, tokens: usize, instructions: usize) -> io::Re
 fn print_fault(rt: &impl Print, version: u32, tokens: &[u32], position: usize) -> io::Result<()> {
     let fault = fault::fault_at(version, tokens, position);
     let token = fault::token_at(tokens, position);
-    let operand = fault.operand;
-    let place = fault.place;
     let instruction = fault.instruction;
+    // Where it is of no operand, both numbers are 0.
+    let told = fault.operand.unwrap_or_default();
+    let operand = told.number;
+    let place = told.place;
     if place == places::USAGE {
-        let destination = fault::token_at(tokens, std::num::wrapping_add_usize(position, 1));
+        let destination = fault::token_at(tokens, position.wrapping_add(1));
         return println!(rt;
             "token {token} operand {operand} place {place} instruction {instruction} version {version} destination {destination}"
         );
@@ -45,12 +47,10 @@ fn print_decoded(rt: &impl Print, bytes: &[u8], position: usize) -> io::Result<(
 
 // Whether the detail of a refusal is a bit.
 fn has_bit(reason: Reason) -> bool {
-    match reason {
-        Reason::Reserved => true,
-        Reason::Modifier => true,
-        Reason::Relative => true,
-        _ => false,
-    }
+    matches!(
+        reason,
+        Reason::Reserved | Reason::Modifier | Reason::Relative
+    )
 }
 
 fn print_refused(rt: &impl Print, bytes: &[u8], refusal: Refusal) -> io::Result<()> {
@@ -76,16 +76,12 @@ fn print_note(rt: &impl Print, note: Note) -> io::Result<()> {
 fn print_notes(rt: &impl Print, version: u32, tokens: &[u32]) -> io::Result<()> {
     let mut at = 1;
     while at < tokens.len() {
-        let noted = notes::next_note(version, tokens, at);
-        match noted {
-            Noted::Refused(_) => return Ok(()),
-            Noted::Found(note) => {
-                if note.notes == 0 {
-                    return Ok(());
-                }
+        match notes::next_note(version, tokens, at) {
+            Ok(note) if note.notes != 0 => {
                 print_note(rt, note)?;
                 at = note.next;
             }
+            _ => break,
         }
     }
     Ok(())
@@ -101,22 +97,23 @@ fn print_accepted_with_notes(rt: &impl Print, bytes: &[u8], instructions: usize)
 
 fn print_verdict(rt: &impl Print, bytes: &[u8], verdict: Verdict) -> io::Result<()> {
     match verdict {
-        Verdict::Accepted(instructions) => print_accepted_with_notes(rt, bytes, instructions),
-        Verdict::Refused(refusal) => print_refused(rt, bytes, refusal),
+        Ok(instructions) => print_accepted_with_notes(rt, bytes, instructions),
+        Err(refusal) => print_refused(rt, bytes, refusal),
     }
 }
 
 // One byte more than the longest lawful stream has: longer input fills the buffer and is LENGTH, not a verdict of what was cut off.
 fn main(rt: HostRuntime) -> ExitCode {
     let mut buffer = [0u8; 65537];
-    let input = input::read_input(&mut rt.stdin(), &mut buffer);
-    let held = input.held;
-    if let Some(error) = input.failure {
-        failure::tell(&rt, "standard input cannot be read", error);
-        return ExitCode::FAILURE;
-    }
-    let verdict = byte_checker::check_bytes(&buffer[..held]);
-    if let Err(error) = print_verdict(&rt, &buffer[..held], verdict) {
+    let held = match input::read_input(&mut rt.stdin(), &mut buffer) {
+        Ok(held) => held,
+        Err(error) => {
+            failure::tell(&rt, "standard input cannot be read", error);
+            return ExitCode::FAILURE;
+        }
+    };
+    let bytes = &buffer[..held];
+    if let Err(error) = print_verdict(&rt, bytes, byte_checker::check_bytes(bytes)) {
         failure::tell(&rt, "standard output cannot be written", error);
         return ExitCode::FAILURE;
     }

@@ -1,8 +1,7 @@
+use mathlib.Core.Path.{ap, ◌∙◌}
 use Rattle.reader.proofs.ReadingUnique.{told_one}
+use Rattle.santubeli.specs.Entries.{read_answer_of}
 use Rattle.santubeli.proofs.santubeli_read.Goals as goal
 
-pub returns-in-Got : goal.returns-in-Got
-returns-in-Got c = rw (← (told_one _ _ c.read-read.ensures), c.in-Got.is)
-
-pub returns-in-Refused : goal.returns-in-Refused
-returns-in-Refused c = rw (← (told_one _ _ c.read-read.ensures), c.in-Refused.is, c.number_of.ensures)
+pub returns : goal.returns
+returns c = c.read_answer_of.ensures ∙ ap read_answer_of (told_one _ _ c.read.ensures)
