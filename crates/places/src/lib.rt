@@ -1,4 +1,5 @@
-// The places of operands, by their numbers.
+// The places of operands, by their numbers. They are numbers and no enum: a row of places is one 64-bit number of a read-only table, whose
+// digits the judge takes off, and each register type has two places, so that an enum would have some sixty variants.
 #![tactic(auto)]
 
 ghost use Rattle.std.specs.Prelude.{◌≡◌};
@@ -54,12 +55,14 @@ pub const BUMP_READ: u64 = 91;
 pub const BASE: u64 = 128;
 
 // Whether a place's token is kept as it stands: R's, and U's, which is judged beside its destination.
+#[tactic(auto, using(crate::proofs::PlaceKinds::raw_by))]
 pub fn is_raw(place: u64) -> bool
     ensures { result ≡ isRawPlace (place_by place) }
 {
     (place == RAW) | (place == USAGE)
 }
 
+#[tactic(auto, using(crate::proofs::PlaceKinds::destination_by))]
 pub fn is_destination(place: u64) -> bool
     ensures { result ≡ isDestinationPlace (place_by place) }
 {
@@ -67,12 +70,14 @@ pub fn is_destination(place: u64) -> bool
 }
 
 // Whether bit 13 of a place's token brings a relative one.
+#[tactic(auto, using(crate::proofs::PlaceKinds::free_by))]
 pub fn is_free(place: u64) -> bool
     ensures { result ≡ isFreePlace (place_by place) }
 {
     (place == FREE_DESTINATION) | (place == FREE_SOURCE)
 }
 
+#[tactic(auto, using(crate::proofs::PlaceKinds::predicate_by))]
 pub fn is_predicate(place: u64) -> bool
     ensures { result ≡ isPredicatePlace (place_by place) }
 {

@@ -1,5 +1,5 @@
 -- What a version has, as one number, which the code keeps for each.
-use Rattle.std.specs.Prelude.{ℕ, suc, ◌+◌, ◌*◌, ◌/◌, ◌%◌, ◌^◌, ◌<◌, ◌≡◌, Bool, List, [], ◌∷◌, eqb}
+use Rattle.std.specs.Prelude.{ℕ, suc, ◌+◌, ◌*◌, ◌^◌, Bool, List, [], ◌∷◌, eqb}
 use Rattle.paper.specs.Notation.{pick, among}
 use Rattle.paper.specs.Versions.{has, versions, version_token, is_pixel, has_sizes, has_predicates}
 use Rattle.paper.specs.OperandTokens.{relative_sources, relative_destinations, marked_sources, has_shift_scale, has_further}
@@ -48,18 +48,3 @@ row_number P11 = traits_of P11
 row_number P12 = traits_of P12
 row_number P13 = traits_of P13
 row_number P14 = traits_of P14
-
--- what such a number tells
-pub record Tells (v : Version) (row : ℕ) : Type 0 where
-  pub pixel : eqb (row / 2 ^ 40 % 2) 1 ≡ is_pixel v
-  pub predicates : eqb (row / 2 ^ 41 % 2) 1 ≡ has_predicates v
-  pub sources : eqb (row / 2 ^ 42 % 2) 1 ≡ relative_sources v
-  pub destinations : eqb (row / 2 ^ 43 % 2) 1 ≡ relative_destinations v
-  pub addresses : eqb (row / 2 ^ 44 % 2) 1 ≡ (has v).addresses
-  pub face : eqb (row / 2 ^ 45 % 2) 1 ≡ declares_face v
-  pub scales : eqb (row / 2 ^ 46 % 2) 1 ≡ has_shift_scale v
-  pub further : eqb (row / 2 ^ 47 % 2) 1 ≡ has_further v
-  pub marked : eqb (row / 2 ^ 48 % 2) 1 ≡ marked_sources v
-  pub sizes : eqb (row / 2 ^ 49 % 2) 1 ≡ has_sizes v
-  pub ranked : row / 2 ^ 50 ≡ rank v
-  pub forms : (type : ℕ) → type < 32 → row % 2 ^ 40 / 2 ^ (2 * type) % 4 ≡ form_of v type

@@ -1,21 +1,21 @@
 // Versions, and what each has: document 01, "What the build does", and what its other sections and document 02's Q-4 say of versions.
 #![tactic(auto)]
 
-ghost use Rattle.std.specs.Prelude.{◌≡◌, ◌<◌};
+ghost use Rattle.std.specs.Prelude.{◌≡◌, ◌≢◌, ◌<◌, ◌/◌, ◌%◌, eqb};
 ghost use Rattle.paper.specs.Notation.{among};
 ghost use Rattle.paper.specs.Versions.{has, named, is_pixel, has_sizes, has_predicates};
 ghost use Rattle.paper.specs.Numbers.{told_named};
 ghost use Rattle.paper.specs.OperandTokens.{relative_sources, relative_destinations, marked_sources, has_shift_scale, has_further, type_of, free_destination_types, free_source_types, condition_types, relative_types};
 ghost use Rattle.paper.specs.Dcl.{declares_face};
 ghost use Rattle.versions.specs.Sets.{set_of, holds};
-ghost use Rattle.versions.specs.Rows.{form_of, rank, row_number, Tells};
-ghost use Rattle.versions.specs.Names.{Names};
+ghost use Rattle.versions.specs.Rows.{form_of, rank, row_number};
+ghost use Rattle.versions.specs.Forms.{form_number};
 
 use paper::Version;
 
 // The version whose first token this is.
-fn found_by(token: u32) -> Option<Version>
-    ensures { Names result token }
+pub fn version_of(token: u32) -> Option<Version>
+    ensures { told_named result ≡ told_named (named token) }
 {
     match token {
         0xFFFE_0200 => Some(Version::V2),
@@ -31,10 +31,12 @@ fn found_by(token: u32) -> Option<Version>
     }
 }
 
-pub fn version_of(token: u32) -> Option<Version>
-    ensures { told_named result ≡ told_named (named token) }
-{
-    found_by(token)
+// The forms of U, by the digit that a row has for them; 0 is that of a type that is not declared.
+#[derive(Clone, Copy, PartialEq, Eq)]
+pub enum Form {
+    Sampler = 1,
+    Plain = 2,
+    Usage = 3,
 }
 
 // What a version has, one number of specs/Rows.antt for each: a bit for each property, and the rank.
@@ -73,13 +75,11 @@ const MISCELLANEOUS: u64 = 1 << 34;
 
 const FORMS: u64 = 4;
 
-pub const NO_FORM: u64 = 0;
+const SAMPLER_FORM: u64 = Form::Sampler as u64;
 
-pub const SAMPLER_FORM: u64 = 1;
+const PLAIN_FORM: u64 = Form::Plain as u64;
 
-pub const PLAIN_FORM: u64 = 2;
-
-pub const USAGE_FORM: u64 = 3;
+const USAGE_FORM: u64 = Form::Usage as u64;
 
 // The rows.
 const VS_2_0: u64 = USAGE_FORM * INPUT + RELATIVE_SOURCES + ADDRESSES + SIZES;
@@ -136,83 +136,84 @@ fn row_of(version: Version) -> u64
     }
 }
 
-// A row by what it tells: every question of a version is asked of it.
-fn told_of(version: Version) -> u64
-    ensures { Tells version result }
+// Whether a version's row raises the bit of a property.
+fn raises<const PROPERTY: u64>(version: Version) -> bool
+    requires { PROPERTY ≢ 0 }
+    ensures { result ≡ eqb (row_number version / PROPERTY % 2) 1 }
 {
-    row_of(version)
+    row_of(version) / PROPERTY % 2 == 1
 }
 
 pub fn is_pixel(version: Version) -> bool
     ensures { result ≡ is_pixel version }
 {
-    told_of(version) / PIXEL % 2 == 1
+    raises::<PIXEL>(version)
 }
 
 pub fn has_predicates(version: Version) -> bool
     ensures { result ≡ has_predicates version }
 {
-    told_of(version) / PREDICATES % 2 == 1
+    raises::<PREDICATES>(version)
 }
 
 // Whether instructions state their size.
 pub fn has_sizes(version: Version) -> bool
     ensures { result ≡ has_sizes version }
 {
-    told_of(version) / SIZES % 2 == 1
+    raises::<SIZES>(version)
 }
 
 // Whether bits 27:24 of a destination are free.
 pub fn has_shift_scale(version: Version) -> bool
     ensures { result ≡ has_shift_scale version }
 {
-    told_of(version) / SHIFT_SCALES % 2 == 1
+    raises::<SHIFT_SCALES>(version)
 }
 
 // Whether sources have the modifiers 7 to A.
 pub fn has_further(version: Version) -> bool
     ensures { result ≡ has_further version }
 {
-    told_of(version) / FURTHER_MODIFIERS % 2 == 1
+    raises::<FURTHER_MODIFIERS>(version)
 }
 
 // Whether a source's bit 13 may be one and brings no token.
 pub fn marked_sources(version: Version) -> bool
     ensures { result ≡ marked_sources version }
 {
-    told_of(version) / MARKED_SOURCES % 2 == 1
+    raises::<MARKED_SOURCES>(version)
 }
 
 pub fn relative_sources(version: Version) -> bool
     ensures { result ≡ relative_sources version }
 {
-    told_of(version) / RELATIVE_SOURCES % 2 == 1
+    raises::<RELATIVE_SOURCES>(version)
 }
 
 pub fn relative_destinations(version: Version) -> bool
     ensures { result ≡ relative_destinations version }
 {
-    told_of(version) / RELATIVE_DESTINATIONS % 2 == 1
+    raises::<RELATIVE_DESTINATIONS>(version)
 }
 
 // Whether a relative token may be an address register.
 fn has_addresses(version: Version) -> bool
     ensures { result ≡ (has version).addresses }
 {
-    told_of(version) / ADDRESSES % 2 == 1
+    raises::<ADDRESSES>(version)
 }
 
 pub fn declares_face(version: Version) -> bool
     ensures { result ≡ declares_face version }
 {
-    told_of(version) / FACE % 2 == 1
+    raises::<FACE>(version)
 }
 
 // Which bit of a row of the opcode table is the version's.
 pub fn rank_of(version: Version) -> u32
     ensures { result ≡ rank version }
 {
-    (told_of(version) / RANK) as u32
+    (row_of(version) / RANK) as u32
 }
 
 pub fn type_of(token: u32) -> u32
@@ -223,6 +224,7 @@ pub fn type_of(token: u32) -> u32
 }
 
 // Whether a token's register type is one of a set.
+#[tactic(auto, unfolding(crate::specs::Sets::holds))]
 pub fn type_in(set: u32, token: u32) -> bool
     ensures { result ≡ holds set (type_of token) }
 {
@@ -248,6 +250,7 @@ const COUNTER: u32 = 15;
 
 const PREDICATE: u32 = 19;
 
+// These two answer each with a pair of its own: a function of the pair would be the same `if` again.
 pub fn free_destination_types(version: Version) -> u32
     ensures { result ≡ set_of (free_destination_types version) }
 {
@@ -268,35 +271,37 @@ pub fn free_source_types(version: Version) -> u32
     }
 }
 
-// The form of U that DCL takes with a token's register type.
-pub fn form_of(version: Version, token: u32) -> u64
-    ensures { result ≡ form_of version (type_of token) }
+// The form of U that DCL takes with a token's register type, if it takes one.
+pub fn form_of(version: Version, token: u32) -> Option<Form>
+    ensures { form_number result ≡ form_of version (type_of token) }
 {
-    let row = told_of(version);
+    let row = row_of(version);
     let kind = type_of(token);
-    ((row % PIXEL) >> (2 * kind)) % FORMS
+    match ((row % PIXEL) >> (2 * kind)) % FORMS {
+        0 => None,
+        1 => Some(Form::Sampler),
+        2 => Some(Form::Plain),
+        _ => Some(Form::Usage),
+    }
 }
 
 pub fn condition_typed(version: Version, token: u32) -> bool
     ensures { result ≡ among (type_of token) (condition_types version) }
 {
-    let kind = type_of(token);
-    if kind == PREDICATE {
-        return has_predicates(version);
+    match type_of(token) {
+        BOOLEAN => true,
+        PREDICATE => has_predicates(version),
+        _ => false,
     }
-    kind == BOOLEAN
 }
 
 // "type 3 or 15 (P3: 15 only)"
 pub fn relative_typed(version: Version, token: u32) -> bool
     ensures { result ≡ among (type_of token) (relative_types version) }
 {
-    let kind = type_of(token);
-    if kind == COUNTER {
-        return true;
+    match type_of(token) {
+        COUNTER => true,
+        ADDRESS => has_addresses(version),
+        _ => false,
     }
-    if kind == ADDRESS {
-        return has_addresses(version);
-    }
-    false
 }
