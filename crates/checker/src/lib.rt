@@ -211,6 +211,7 @@ fn block(
 {
     let first = body(version, tokens, start, around.inside(opener))?;
     if opener == Opener::If && first.closer == Closer::Else {
+        // Worked out anew: kept over the first body, what is inside would take 16 bytes more of the stack for each open block.
         let second = body(version, tokens, first.behind(), around.inside(Opener::If))?;
         return close(opener, second);
     }
