@@ -3,12 +3,16 @@ use Prim.Native.Nat.{ℕ, ◌+◌, ◌-◌, ◌≤◌}
 use mathlib.Core.Path.{◌≡◌, sym, ◌∙◌}
 use mathlib.Core.List.{List, ◌++◌, append_assoc}
 use native.Mathlib.Omega.{arith}
-use lib.ListN.{length, take, drop}
+use lib.ListN.{length, take, drop, take-append-drop}
 use lib.Seq.{drop-drop, take-take, take-append-le, drop_at, length-take-le}
 use Rattle.std.specs.List.{copy_within}
 use Rattle.edit.specs.Edit.{new_length}
 use Rattle.edit.proofs.Prefix.{part}
 use Rattle.splicer.specs.Splicing.{with_run}
+
+-- tokens that stay
+pub stayed : (old : List ℕ) (n j to : ℕ) → to ≡ j → old ≡ copy_within old j n to
+stayed old n j to e = sym (rw (e, append_assoc, ← drop-drop (n - j) j old, take-append-drop, take-append-drop))
 
 module _ (old run : List ℕ) (n i j : ℕ) (order : i ≤ j) (inside : j ≤ n) (room : new_length n i j (length run) ≤ length old) where
   abbrev moved : List ℕ
