@@ -14,7 +14,7 @@ use Rattle.paper.specs.Blocks.{then, most_open}
 use Rattle.paper.specs.Walk.{WalkState, begin, go, bad, step}
 use Rattle.paper.specs.Stream.{cut_from, length_laid, verdict}
 use Rattle.paper.specs.declared.Version.{Version}
-use Rattle.paper.specs.Judgements.{good_instruction}
+use Rattle.paper.specs.Judgements.{good_instruction, Verdict}
 use Rattle.paper.specs.declared.Reason.{Reason}
 use Rattle.paper.specs.declared.Reason.TheVariants.{Length as LENGTH, Version as VERSION, RunOut as RUN_OUT, Block as BLOCK, Depth as DEPTH, Tail as TAIL}
 use Rattle.paper.specs.declared.Refusal.{Refusal}
@@ -122,7 +122,7 @@ module _ (s : List ℕ) (p : ℕ) (opener : Bool) (answer : verdict s ≡ Err (r
     no_end : ended passed.classes ≡ false
     no_end =
         let walk = nesting_refused v s (rw (cut_good v s p size class good) at (row_leads passed.row)) begun none_begins in
-        let both : Err (refusal (reason_after passed.classes class) p) ≡ Err (refusal (reason_of opener) p) =
+        let both : ◌≡◌ {A = Verdict} (Err (refusal (reason_after passed.classes class) p)) (Err (refusal (reason_of opener) p)) =
         sym walk ∙ sym (verdict_walked s v laid known) ∙ answer in
         let same : refusal (reason_after passed.classes class) p ≡ refusal (reason_of opener) p = cc in
         not_ended (ended passed.classes) class (ap (λ (r : Refusal). r.reason) same)

@@ -1,21 +1,27 @@
 -- From a place on the reader comes up to END in at most one way.
 use Prim.Native.Nat.{ℕ}
+use Rattle.std.specs.Prelude.{Ok, Err}
 use mathlib.Core.Path.{◌≡◌, refl, sym, ap, ◌∙◌}
 use mathlib.Core.List.{List}
 use Rattle.records.specs.declared.Record.{Record}
 use Rattle.reader.specs.Reading.{Answer, got}
 use Rattle.demands.specs.Reading.{Given, ReadUp, ends, goes}
 
+-- what a reading gives, where it gives one
+abbrev next_in : ℕ → Answer → ℕ
+next_in other (Ok r) = r.next
+next_in other (Err r) = other
+
+abbrev record_in : Record → Answer → Record
+record_in other (Ok r) = r.instruction
+record_in other (Err r) = other
+
 -- one reading has one next place and one record
 same_next : {a b : ℕ} {i j : Record} {x : Answer} → x ≡ got a i → x ≡ got b j → a ≡ b
-same_next {a} {b} {i} {j} e f =
-    let both : got a i ≡ got b j = sym e ∙ f in
-    cc
+same_next {a} e f = ap (next_in a) (sym e ∙ f)
 
 same_record_lem : {a b : ℕ} {i j : Record} {x : Answer} → x ≡ got a i → x ≡ got b j → i ≡ j
-same_record_lem {a} {b} {i} {j} e f =
-    let both : got a i ≡ got b j = sym e ∙ f in
-    cc
+same_record_lem {i = i} e f = ap (record_in i) (sym e ∙ f)
 
 -- so the reader goes one way
 pub one_reading_lem : {version : ℕ} {stream : List ℕ} {at : ℕ} {given others : List Given} →

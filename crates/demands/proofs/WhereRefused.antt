@@ -15,7 +15,7 @@ use Rattle.paper.specs.Blocks.{Cut, then}
 use Rattle.paper.specs.Walk.{WalkState, begin, Next, go, bad, finish, step, on_next, at_end}
 use Rattle.paper.specs.Stream.{cut_one, cut_from, walked, length_laid, verdict}
 use Rattle.paper.specs.declared.Version.{Version}
-use Rattle.paper.specs.Judgements.{Judged, good_instruction, bad_instruction}
+use Rattle.paper.specs.Judgements.{Judged, good_instruction, bad_instruction, Verdict}
 use Rattle.paper.specs.declared.Reason.{Reason}
 use Rattle.paper.specs.declared.Reason.TheVariants.{Length as LENGTH, Version as VERSION, RunOut as RUN_OUT, Tail as TAIL}
 use Rattle.paper.specs.declared.Refusal.{Refusal}
@@ -49,7 +49,7 @@ further j e h (breaks c k b) = breaks (passes j e h c) k b
 further j e h (trails l) = trails l
 
 module _ (v : Version) (s : List ℕ) (r : Refusal) where
-  same : (p : ℕ) (w : WalkState) (x : Refusal) → Err x ≡ Err r → Refusing v s p w x → Refusing v s p w r
+  same : (p : ℕ) (w : WalkState) (x : Refusal) → ◌≡◌ {A = Verdict} (Err x) (Err r) → Refusing v s p w x → Refusing v s p w r
   same p w x e h = let f : x ≡ r = cc in rw f at h
 
   out_of_tokens : (n p : ℕ) (w : WalkState) → p ≡ length s → nesting n (cut_from v s p) w ≡ Err r → Refusing v s p w r
@@ -57,13 +57,13 @@ module _ (v : Version) (s : List ℕ) (r : Refusal) where
   out_of_tokens n p w at e =
       same p w (refusal RUN_OUT (length s)) (sym (rw (at, cut_none v s (length s) (omega arith))) ∙ e) (runs_out {u = w} (rw at stays))
 
-  at_end_lem : (judgement : Judged) (n q : ℕ) (rest : ℕ → Cut) → at_end n (cut_one judgement q rest) ≡ Err r → Err (refusal TAIL q) ≡ Err r
+  at_end_lem : (judgement : Judged) (n q : ℕ) (rest : ℕ → Cut) → at_end n (cut_one judgement q rest) ≡ Err r → ◌≡◌ {A = Verdict} (Err (refusal TAIL q)) (Err r)
   at_end_lem (good_instruction size class) n q rest e = e
   at_end_lem (bad_instruction x) n q rest e = e
 
   behind_end : (n p q : ℕ) (w : WalkState) → (none : Bool) → leb (length s) q ≡ none → at_end n (cut_from v s q) ≡ Err r → Refusing v s p w r
   behind_end n p q w true l e =
-      let yes_to : Ok n ≡ Err r = rw (cut_none v s q (leb-true (length s) q l)) at e in
+      let yes_to : ◌≡◌ {A = Verdict} (Ok n) (Err r) = rw (cut_none v s q (leb-true (length s) q l)) at e in
       apart (cc)
   behind_end n p q w false l e =
       let inside = leb-false (length s) q l in
@@ -112,13 +112,13 @@ module _ (s : List ℕ) (r : Refusal) (e : verdict s ≡ Err r) where
       in_walk v laid known
       (walked_refused v s r (omega (arith, laid_two (length s) laid)) (sym (verdict_walked s v laid known) ∙ e))
   by_version None known laid =
-      let f : Err (refusal VERSION 0) ≡ Err r = sym (verdict_version s laid known) ∙ e in
+      let f : ◌≡◌ {A = Verdict} (Err (refusal VERSION 0)) (Err r) = sym (verdict_version s laid known) ∙ e in
       for_version (cc)
 
   by_length : (is_long : Bool) → length_laid (length s) ≡ is_long → StreamRefused s r
   by_length true laid = by_version (named (get_or s 0 0)) refl laid
   by_length false laid =
-      let f : Err (refusal LENGTH 0) ≡ Err r = sym (verdict_length s laid) ∙ e in
+      let f : ◌≡◌ {A = Verdict} (Err (refusal LENGTH 0)) (Err r) = sym (verdict_length s laid) ∙ e in
       for_length (cc)
 
   pub stream_refused : StreamRefused s r
