@@ -1,11 +1,12 @@
 -- A buffer whose tail is moved and whose run is then written before it.
 use Prim.Native.Nat.{ℕ, ◌+◌, ◌-◌, ◌≤◌}
-use mathlib.Core.Path.{◌≡◌, sym, ◌∙◌}
+use mathlib.Core.Path.{◌≡◌, refl, sym, ◌∙◌}
 use mathlib.Core.List.{List, ◌++◌, append_assoc}
 use native.Mathlib.Omega.{arith}
 use lib.ListN.{length, take, drop, take-append-drop}
-use lib.Seq.{drop-drop, take-take, take-append-le, drop_at, length-take-le}
+use lib.Seq.{paste, drop-drop, take-take, take-append-le, drop_at, length-take-le}
 use Rattle.std.specs.List.{copy_within}
+use Rattle.std.proofs.lemmas.List.Edits.{paste_all}
 use Rattle.edit.specs.Edit.{new_length}
 use Rattle.edit.proofs.Prefix.{part}
 use Rattle.splicer.specs.Splicing.{with_run}
@@ -36,8 +37,6 @@ module _ (old run : List ℕ) (n i j : ℕ) (order : i ≤ j) (inside : j ≤ n)
       let tail : drop j (take n old) ≡ take (n - j) (drop j old) = rw all at (part j (n - j) old) in
       rw (append_assoc, tail, ← size) (drop_at first _ (i + length run) (length-take-le (i + length run) old (omega arith)))
 
-  pub run_put : take i moved ++ (run ++ drop (i + length run - i) (drop i moved)) ≡ with_run old n i j run
+  pub run_put : paste moved i run (length run) ≡ with_run old n i j run
   unfolding with_run
-  run_put =
-      let size : i + (i + length run - i) ≡ i + length run = omega arith in
-      rw (drop-drop, size, front, behind) (simp append_assoc)
+  run_put = paste_all moved i run (length run) refl ∙ rw (front, behind) (simp append_assoc)

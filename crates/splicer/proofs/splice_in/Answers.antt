@@ -19,9 +19,6 @@ returns c =
     let g = c.args in
     let moved : c.if-end-j.buffer ≡ copy_within g.buffer.now g.j g.n (g.i + length g.run.now) =
     elim c.if-end-j.branch [ then-end-j w ↦ w.buffer-is ∙ w.copy_within.ensures.after | else-end-j w ↦ w.buffer-is ∙ stayed g.buffer.now g.n g.j _ (omega arith) ] in
-    rw (
-      moved,
-      c.copy_from_slice.ensures.after,
-      run_taken g.buffer.now g.n g.i g.j g.run.now (omega arith) (omega arith) (omega arith) (omega arith),
-    )
+    c.write_run.ensures
+    ∙ rw (moved, run_taken g.buffer.now g.n g.i g.j g.run.now (omega arith) (omega arith) (omega arith) (omega arith))
     (run_put g.buffer.now g.run.now g.n g.i g.j (omega arith) (omega arith) (omega arith))
