@@ -101,9 +101,11 @@ fn token_of(number: u32, kind: u32, relative: u32, middle: u64) -> u32
 {
     let kind = kind as u64;
     let token = number as u64
-        + (0x800 * (kind / 8)
-            + (0x2000 * relative as u64
-                + (0x1_0000 * middle + (0x1000_0000 * (kind % 8) + 0x8000_0000))));
+        + 0x800 * (kind / 8)
+        + 0x2000 * relative as u64
+        + 0x1_0000 * middle
+        + 0x1000_0000 * (kind % 8)
+        + 0x8000_0000;
     (token % 0x1_0000_0000) as u32
 }
 
@@ -112,7 +114,8 @@ fn operand_token(operand: Operand) -> u32
 {
     let middle = operand.mask as u64
         + operand.swizzle as u64
-        + (0x10 * operand.result as u64 + 0x100 * (operand.modifier as u64 + operand.shift as u64));
+        + 0x10 * operand.result as u64
+        + 0x100 * (operand.modifier as u64 + operand.shift as u64);
     token_of(operand.number, operand.kind, operand.relative, middle)
 }
 
@@ -138,10 +141,10 @@ fn first_token(version: Version, instruction: &Record, size: usize) -> u32
         0
     };
     let token = instruction.opcode as u64
-        + (0x1_0000 * instruction.controls as u64
-            + (0x100_0000 * stated as u64
-                + (0x1000_0000 * instruction.predicated as u64
-                    + 0x4000_0000 * instruction.coissue as u64)));
+        + 0x1_0000 * instruction.controls as u64
+        + 0x100_0000 * stated as u64
+        + 0x1000_0000 * instruction.predicated as u64
+        + 0x4000_0000 * instruction.coissue as u64;
     (token % 0x1_0000_0000) as u32
 }
 
