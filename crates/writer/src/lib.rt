@@ -35,7 +35,8 @@ fn is_unused(operand: Operand) -> bool
     Operand::default() == operand
 }
 
-// Whether an operand's fields are as reading gives them: a raw one's, a destination's, a source's, and those of its relative token.
+// Whether an operand's fields are as reading gives them: a raw one's, a destination's, a source's, and those of its relative token. By `&`:
+// with `&&` the real mix of vs_2_0 is written in 191 instructions a token, with `&` in 184.
 fn raw_fits(operand: Operand) -> bool
     ensures { result ≡ raw_fits operand }
 {
@@ -46,26 +47,28 @@ fn destination_fits(operand: Operand) -> bool
     ensures { result ≡ destination_fits operand }
 {
     (operand.number < 0x800)
-        & ((operand.kind < 32)
-            & ((operand.relative < 2)
-                & ((operand.mask < 16)
-                    & ((operand.result < 8)
-                        & ((operand.shift < 16)
-                            & ((operand.swizzle == 0)
-                                & ((operand.modifier == 0) & (operand.raw == 0))))))))
+        & (operand.kind < 32)
+        & (operand.relative < 2)
+        & (operand.mask < 16)
+        & (operand.result < 8)
+        & (operand.shift < 16)
+        & (operand.swizzle == 0)
+        & (operand.modifier == 0)
+        & (operand.raw == 0)
 }
 
 fn source_fits(operand: Operand) -> bool
     ensures { result ≡ source_fits operand }
 {
     (operand.number < 0x800)
-        & ((operand.kind < 32)
-            & ((operand.relative < 2)
-                & ((operand.swizzle < 0x100)
-                    & ((operand.modifier < 16)
-                        & ((operand.mask == 0)
-                            & ((operand.result == 0)
-                                & ((operand.shift == 0) & (operand.raw == 0))))))))
+        & (operand.kind < 32)
+        & (operand.relative < 2)
+        & (operand.swizzle < 0x100)
+        & (operand.modifier < 16)
+        & (operand.mask == 0)
+        & (operand.result == 0)
+        & (operand.shift == 0)
+        & (operand.raw == 0)
 }
 
 fn own_fits(place: u64, operand: Operand) -> bool
@@ -81,14 +84,14 @@ fn relative_fits(operand: Operand) -> bool
     ensures { result ≡ relative_fits operand }
 {
     (operand.relative_number < 0x800)
-        & ((operand.relative_kind < 32) & (operand.relative_swizzle < 0x100))
+        & (operand.relative_kind < 32)
+        & (operand.relative_swizzle < 0x100)
 }
 
 fn relative_none(operand: Operand) -> bool
     ensures { result ≡ relative_none operand }
 {
-    (operand.relative_number == 0)
-        & ((operand.relative_kind == 0) & (operand.relative_swizzle == 0))
+    (operand.relative_number == 0) & (operand.relative_kind == 0) & (operand.relative_swizzle == 0)
 }
 
 // A token of these fields, cut to 32 bits. No sum of fields passes 64 bits, whatever they are.
@@ -98,9 +101,11 @@ fn token_of(number: u32, kind: u32, relative: u32, middle: u64) -> u32
 {
     let kind = kind as u64;
     let token = number as u64
-        + (0x800 * (kind / 8)
-            + (0x2000 * relative as u64
-                + (0x1_0000 * middle + (0x1000_0000 * (kind % 8) + 0x8000_0000))));
+        + 0x800 * (kind / 8)
+        + 0x2000 * relative as u64
+        + 0x1_0000 * middle
+        + 0x1000_0000 * (kind % 8)
+        + 0x8000_0000;
     (token % 0x1_0000_0000) as u32
 }
 
@@ -109,7 +114,8 @@ fn operand_token(operand: Operand) -> u32
 {
     let middle = operand.mask as u64
         + operand.swizzle as u64
-        + (0x10 * operand.result as u64 + 0x100 * (operand.modifier as u64 + operand.shift as u64));
+        + 0x10 * operand.result as u64
+        + 0x100 * (operand.modifier as u64 + operand.shift as u64);
     token_of(operand.number, operand.kind, operand.relative, middle)
 }
 
@@ -135,10 +141,10 @@ fn first_token(version: Version, instruction: &Record, size: usize) -> u32
         0
     };
     let token = instruction.opcode as u64
-        + (0x1_0000 * instruction.controls as u64
-            + (0x100_0000 * stated as u64
-                + (0x1000_0000 * instruction.predicated as u64
-                    + 0x4000_0000 * instruction.coissue as u64)));
+        + 0x1_0000 * instruction.controls as u64
+        + 0x100_0000 * stated as u64
+        + 0x1000_0000 * instruction.predicated as u64
+        + 0x4000_0000 * instruction.coissue as u64;
     (token % 0x1_0000_0000) as u32
 }
 
@@ -256,9 +262,9 @@ fn is_first(token: u32, instruction: &Record) -> bool
     ensures { result ≡ says_fields token instruction.now.opcode instruction.now.controls instruction.now.predicated instruction.now.coissue }
 {
     (token % 0x1_0000 == instruction.opcode)
-        & ((token / 0x1_0000 % 0x100 == instruction.controls)
-            & ((token / 0x1000_0000 % 2 == instruction.predicated)
-                & (token / 0x4000_0000 % 2 == instruction.coissue)))
+        & (token / 0x1_0000 % 0x100 == instruction.controls)
+        & (token / 0x1000_0000 % 2 == instruction.predicated)
+        & (token / 0x4000_0000 % 2 == instruction.coissue)
 }
 
 // Whether the judge lets these tokens pass as one instruction.
@@ -284,7 +290,8 @@ fn encode(room: &mut [u32], known: Version, instruction: &Record, lent: usize) -
     let size = put_row(&mut room[1..], row, instruction)?;
     if shape == 0 {
         let bare = (instruction.controls == 0)
-            & ((instruction.predicated == 0) & (instruction.coissue == 0));
+            & (instruction.predicated == 0)
+            & (instruction.coissue == 0);
         if !bare {
             return None;
         }

@@ -8,6 +8,7 @@ use lib.ListN.{length, take, get_or, set}
 use lib.Seq.{length-take-le}
 use borrow.Author.Tests.{ne_eqb, eqb-true}
 use borrow.Rule.Slice.PartMut.{mid_of, put_mid, same_len_mid}
+use Rattle.std.proofs.Math.Bool.{and_assoc}
 use Rattle.paper.specs.InstructionToken.{comment_opcode}
 use Rattle.paper.specs.declared.Version.{Version}
 use Rattle.paper.proofs.Bools.{both_right}
@@ -75,7 +76,7 @@ pub returns-then-not-bare : goal.returns-then-not-bare
 returns-then-not-bare c =
     let g = c.args in
     encodes_none g.known g.instruction.now g.lent _
-    (bare_fails g.known g.instruction.now g.lent (sym c.shape_of-shape.ensures ∙ c.if-shape-eq0.true) c.if-not-bare.true)
+    (bare_fails g.known g.instruction.now g.lent (sym c.shape_of-shape.ensures ∙ c.if-shape-eq0.true) (sym (and_assoc (eqb g.instruction.now.controls 0) _ _) ∙ c.if-not-bare.true))
 
 pub returns-then-shape-eq0 : goal.returns-then-shape-eq0
 returns-then-shape-eq0 c =
@@ -83,7 +84,7 @@ returns-then-shape-eq0 c =
     let r = g.instruction.now in
     let fits = fit g.known r c.shape_of-shape.ensures c.row_of-row.ensures g.room.now c.put_row.new.room c.put_row.ensures in
     let keeps = kept g.known r c.shape_of-shape.ensures c.row_of-row.ensures g.room.now c.put_row.new.room c.put_row.ensures in
-    bare_encodes g.known r g.lent (sym c.shape_of-shape.ensures ∙ c.if-shape-eq0.true) (omega arith) (fits.passes c.in_ok-size.was) c.if-not-bare.false _ _
+    bare_encodes g.known r g.lent (sym c.shape_of-shape.ensures ∙ c.if-shape-eq0.true) (omega arith) (fits.passes c.in_ok-size.was) (sym (and_assoc (eqb r.controls 0) _ _) ∙ c.if-not-bare.false) _ _
     c.encode_bare.result (omega (arith, keeps)) c.encode_bare.ensures
 
 -- an instruction of the table
