@@ -14,5 +14,5 @@ returns-in-2 c = sym c.in-2.is ∙ rw c.type_of-kind.ensures.is (form_in c.args.
 pub returns-in_default : goal.returns-in_default
 returns-in_default c =
     let form : c.row_of-row.result % 2 ^ 40 / 2 ^ (2 * c.type_of-kind.result) % 4 ≡ form_of c.args.version (type_of c.args.token) =
-        rw c.type_of-kind.ensures.is (form_in c.args.version _ _ c.row_of-row.ensures (type_small c.args.token)) in
+    rw c.type_of-kind.ensures.is (form_in c.args.version _ _ c.row_of-row.ensures (type_small c.args.token)) in
     omega (arith, form)
