@@ -3,7 +3,7 @@
 #![tactic(auto)]
 
 ghost use Rattle.std.specs.Prelude.{◌≡◌, ◌||◌, ◌&&◌, true, false, [], eqb, leb, ◌≤◌};
-ghost use Rattle.paper.specs.Notation.{bit, bits, pick};
+ghost use Rattle.paper.specs.Notation.{bit, bits};
 ghost use Rattle.paper.specs.Judgements.{as_token};
 ghost use Rattle.paper.specs.Faults.{span, unless, offends, lowest, fault_by};
 ghost use Rattle.paper.specs.OperandTokens.{type_of, modifier_of, negated, written_zeros, fault_at};

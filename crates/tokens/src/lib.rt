@@ -1,10 +1,9 @@
 // Operand tokens, judged at their places: document 01, "Operand tokens", with document 02's Q-4.
 #![tactic(auto)]
 
-ghost use Rattle.std.specs.Prelude.{◌≡◌, true, false, [], ◌∷◌};
-ghost use Rattle.paper.specs.Notation.{pick, among};
-ghost use Rattle.versions.specs.Sets.{holds};
-ghost use Rattle.places.specs.Places.{only_type, place_by};
+ghost use Rattle.std.specs.Prelude.{◌≡◌, true, false};
+ghost use Rattle.paper.specs.Notation.{pick};
+ghost use Rattle.places.specs.Places.{place_by};
 ghost use Rattle.paper.specs.OperandTokens.{type_of, is_free, laid, typed, brings_relative};
 ghost use Rattle.paper.specs.Places.{declared, free_destination, free_source, condition, relative, is_raw, is_destination};
 ghost use Rattle.tokens.specs.Brief.{briefly, brief};
