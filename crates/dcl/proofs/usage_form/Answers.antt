@@ -1,5 +1,0 @@
-use native.Mathlib.Nat.{div-one}
-use Rattle.dcl.proofs.usage_form.Goals as goal
-
-pub returns : goal.returns
-returns c = rw (div-one c.args.usage)
