@@ -1,9 +1,9 @@
-// What is wrong with the layout of a token, if anything is, and the lowest offending bit: document 02, Q-3. It is asked only where a layout is not as document 01
-// says, so that nothing here is on the way of a lawful stream.
+// What is wrong with the layout of a token, if anything is, and the lowest offending bit: document 02, Q-3. It is asked only where a layout is not as
+// document 01 says, so that nothing here is on the way of a lawful stream.
 #![tactic(auto)]
 
 ghost use Rattle.std.specs.Prelude.{◌≡◌, ◌||◌, ◌&&◌, true, false, [], eqb, leb, ◌≤◌};
-ghost use Rattle.paper.specs.Notation.{bit, bits, pick};
+ghost use Rattle.paper.specs.Notation.{bit, bits};
 ghost use Rattle.paper.specs.Judgements.{as_token};
 ghost use Rattle.paper.specs.Faults.{span, unless, offends, lowest, fault_by};
 ghost use Rattle.paper.specs.OperandTokens.{type_of, modifier_of, negated, written_zeros, fault_at};
