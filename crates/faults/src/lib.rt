@@ -1,5 +1,5 @@
-// What is wrong with the layout of a token, if anything is, and the lowest offending bit: document 02, Q-3. It is asked only where a layout is not as document 01
-// says, so that nothing here is on the way of a lawful stream.
+// What is wrong with the layout of a token, if anything is, and the lowest offending bit: document 02, Q-3. It is asked only where a layout is not as
+// document 01 says, so that nothing here is on the way of a lawful stream.
 #![tactic(auto)]
 
 ghost use Rattle.std.specs.Prelude.{◌≡◌, ◌||◌, ◌&&◌, true, false, [], eqb, leb, ◌≤◌};

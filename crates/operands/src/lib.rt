@@ -57,7 +57,7 @@ fn take_operand(version: Version, place: u64, behind: &[u32], at: usize) -> u64
 }
 
 // The operands at these places, from left to right, and no token more. A number of 64 bits has at most ten places, and an operand takes
-// at most two tokens.
+// at most two tokens. A row of places is one number, of which nothing in std goes over the digits: hence `while`.
 pub fn judge_operands(version: Version, places: u64, behind: &[u32]) -> u64
     ensures { result ≡ operands_number (operands version (decoded places) 1 behind.now) }
 {
