@@ -1,5 +1,4 @@
 pub mod Tokens
-pub mod Fitting
-pub mod Turn
 pub mod Verdicts
 pub mod OneAnswer
+pub mod Turn

@@ -1,5 +1,6 @@
 -- Document 01, "What the build does": "it hands the check a byte range, tokens little-endian".
-use Rattle.std.specs.Prelude.{ℕ, ◌+◌, ◌*◌, ◌%◌, List, [], ◌∷◌, eqb, ltb, length, get_or, Err}
+use Rattle.std.specs.Prelude.{ℕ, ◌+◌, ◌*◌, ◌%◌, List, [], ◌∷◌, map, eqb, length, Err}
+use Rattle.std.specs.Int.{w32, from_le_bytes}
 use Rattle.paper.specs.Notation.{pick}
 use Rattle.paper.specs.Numbers.{refusal}
 use Rattle.paper.specs.Stream.{verdict}
@@ -18,13 +19,9 @@ tokens_in (b0 ∷ b1 ∷ []) = []
 tokens_in (b0 ∷ b1 ∷ b2 ∷ []) = []
 tokens_in (b0 ∷ b1 ∷ b2 ∷ b3 ∷ rest) = little_endian b0 b1 b2 b3 ∷ tokens_in rest
 
--- the token at a place
-abbrev pub token_in : List ℕ → ℕ → ℕ
-token_in bytes at = little_endian (get_or bytes (4 * at) 0) (get_or bytes (4 * at + 1) 0) (get_or bytes (4 * at + 2) 0) (get_or bytes (4 * at + 3) 0)
-
--- how many of n fit into a room
-abbrev pub fitting : ℕ → ℕ → ℕ
-fitting n room = pick (ltb room n) room n
+-- the same, where the bytes stand in fours
+abbrev pub tokens_of : List (List ℕ) → List ℕ
+tokens_of = map (from_le_bytes w32)
 
 -- LENGTH: "bytes not a multiple of 4"
 unfoldable pub bytes_verdict : List ℕ → Verdict

@@ -1,3 +1,2 @@
 -- The tokens of a byte range.
 pub mod Bytes
-pub mod Views

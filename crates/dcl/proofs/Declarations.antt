@@ -1,18 +1,14 @@
 -- The operands of DCL by the places of their tokens, and by the numbers of their forms.
 use mathlib.Core.Path.{◌≡◌, refl, sym, ap, ◌∙◌}
-use mathlib.Core.Bool.{Bool, true, false, not, ◌&&◌, ◌||◌}
+use mathlib.Core.Bool.{true, false, ◌&&◌}
 use mathlib.Core.List.{List, [], ◌∷◌}
 use Prim.Native.Nat.{ℕ, ◌<◌, ◌≤◌}
 use native.Mathlib.Omega.{arith}
-use lib.Dec.{eqb}
 use lib.ListN.{length, drop, get_or, length-drop}
-use Rattle.paper.specs.Notation.{pick, among}
 use Rattle.paper.specs.Numbers.{number_of, told_token}
 use Rattle.paper.specs.OperandTokens.{type_of, laid, refused_operands, left_over}
 use Rattle.paper.specs.Places.{declared}
-use Rattle.paper.specs.Dcl.{sampler_form, plain_form, usage_form, sampler_types, plain_types, usage_types, is_declared, form_laid, face_laid, declared_fault, on_declared, usage_laid, usage_fault, usage_at, declaration}
-use Rattle.versions.specs.Rows.{form_of}
-use Rattle.versions.proofs.Forms.{form_by_lem}
+use Rattle.paper.specs.Dcl.{is_declared, face_laid, declared_fault, on_declared, usage_laid, usage_fault, usage_at, declaration}
 use Rattle.paper.specs.declared.Version.{Version}
 use Rattle.paper.specs.declared.Reason.TheVariants.{Size as SIZE, Register as REGISTER}
 use Rattle.paper.specs.Judgements.{Token, good_token, bad_token, Operands, good_operands}
@@ -93,18 +89,3 @@ module _ (v : Version) where
           λ e. all ∙ left_none (drop 2 behind) (omega (arith, long)),
           λ e. all ∙ left_some (drop 2 behind) (λ z. e (omega (arith, long))),
         )
-
--- the forms by their numbers
-module _ (v : Version) (type : ℕ) where
-  declared_by : (sampler plain used : Bool) → not (eqb (pick sampler 1 (pick plain 2 (pick used 3 0))) 0) ≡ sampler || (plain || used)
-  declared_by true plain used = refl
-  declared_by false true used = refl
-  declared_by false false true = refl
-  declared_by false false false = refl
-
-  pub form_declared : not (eqb (form_of v type) 0) ≡ is_declared v type
-  form_declared = declared_by (among type (sampler_types v)) (among type (plain_types v)) (among type (usage_types v))
-
-  pub form_laid_lem : (token : ℕ) → form_laid v type token ≡
-      pick (eqb (form_of v type) 1) (sampler_form token) (pick (eqb (form_of v type) 2) (plain_form token) (usage_form token))
-  form_laid_lem token = form_by_lem v type (sampler_form token) (plain_form token) (usage_form token)

@@ -7,7 +7,8 @@ ghost use Rattle.paper.specs.Places.{declared};
 ghost use Rattle.paper.specs.Dcl.{sampler_form, usage_form, form_laid, is_declared, position_or_face, face_laid, usage_laid, declaration};
 ghost use Rattle.told.specs.Numbered.{operands_number};
 
-use paper::Version;
+use paper::{Fault, Reason, Version};
+use versions::Form;
 
 // The register type of position and face.
 const MISCELLANEOUS: u32 = 17;
@@ -28,14 +29,11 @@ fn usage_form(usage: u32) -> bool
 fn form_laid(version: Version, destination: u32, usage: u32) -> bool
     ensures { result ≡ form_laid version (type_of destination) usage }
 {
-    let form = versions::form_of(version, destination);
-    if form == versions::SAMPLER_FORM {
-        return sampler_form(usage);
+    match versions::form_of(version, destination).unwrap_or(Form::Usage) {
+        Form::Sampler => sampler_form(usage),
+        Form::Plain => usage % 0x8000_0000 == 0,
+        Form::Usage => usage_form(usage),
     }
-    if form == versions::PLAIN_FORM {
-        return usage % 0x8000_0000 == 0;
-    }
-    usage_form(usage)
 }
 
 fn usage_laid(version: Version, destination: u32, usage: u32) -> bool
@@ -65,8 +63,7 @@ fn face_laid(version: Version, destination: u32) -> bool
 fn is_declared(version: Version, destination: u32) -> bool
     ensures { result ≡ is_declared version (type_of destination) }
 {
-    let form = versions::form_of(version, destination);
-    form != versions::NO_FORM
+    versions::form_of(version, destination).is_some()
 }
 
 // Whether the destination is laid out as DCL wants it, type 17's rules among that.
@@ -83,28 +80,20 @@ fn destination_laid(version: Version, destination: u32) -> bool
 pub fn judge_declaration(version: Version, behind: &[u32]) -> u64
     ensures { result ≡ operands_number (declaration version behind.now) }
 {
-    if behind.len() < 2 {
-        return told::refused(paper::SIZE, 0);
-    }
-    let usage = behind[0];
-    let destination = behind[1];
+    let &[usage, destination, ref rest @ ..] = behind else {
+        return told::refused_first(Reason::Size);
+    };
     if !destination_laid(version, destination) {
-        return told::refused(
-            faults::declaration_fault(version, destination, usage, false),
-            2,
-        );
+        return told::refused(faults::declared_fault(version, destination).unwrap(), 2);
     }
     if !is_declared(version, destination) {
-        return told::refused(paper::REGISTER, 2);
+        return told::refused(Fault::of(Reason::Register), 2);
     }
     if !usage_laid(version, destination, usage) {
-        return told::refused(
-            faults::declaration_fault(version, destination, usage, true),
-            1,
-        );
+        return told::refused(faults::usage_fault(version, destination, usage).unwrap(), 1);
     }
-    if behind.len() == 2 {
+    if rest.is_empty() {
         return told::FIT;
     }
-    told::refused(paper::SIZE, 0)
+    told::refused_first(Reason::Size)
 }

@@ -70,7 +70,7 @@ module _ (buffer : List ℕ) (n i j : ℕ) (run : List ℕ) (h : Replaces buffer
 
   which : n ≤ most_tokens →
       edited_in buffer n i j run ≡
-      pick (meets_at_end h.first.version (take n buffer) i j run) (Joined (length (edited_stream buffer n i j run)))
+      pick (meets_at_end h.first.version (take n buffer) i j run) (Ok (Joined (length (edited_stream buffer n i j run))))
       (on_verdict (verdict (edited_stream buffer n i j run)) (length (edited_stream buffer n i j run)))
   which short = in_buffer ∙ answered (length buffer) (take n buffer) i j run h.first.version (allowed short)
 
@@ -81,18 +81,18 @@ module _ (buffer : List ℕ) (n i j : ℕ) (run : List ℕ) (given : ℕ) where
       Holds buffer (buffer_after buffer n i j run) (edited_stream buffer n i j run) given
   after_yes e h = record { is_length = e; is_long = h.as_long; is_held = h.stream_held; is_kept = h.rest_kept }
 
-  after_joined : edited_in buffer n i j run ≡ Joined given → Holds buffer (buffer_after buffer n i j run) (edited_stream buffer n i j run) given
+  after_joined : edited_in buffer n i j run ≡ Ok (Joined given) → Holds buffer (buffer_after buffer n i j run) (edited_stream buffer n i j run) given
   after_joined e =
       after_yes (joined_length (length buffer) (take n buffer) i j run given (joined_held buffer n i j run given e).1).0
       (holds_joined buffer n i j run given e)
 
-  after_accepted : edited_in buffer n i j run ≡ Accepted given → Holds buffer (buffer_after buffer n i j run) (edited_stream buffer n i j run) given
+  after_accepted : edited_in buffer n i j run ≡ Ok (Accepted given) → Holds buffer (buffer_after buffer n i j run) (edited_stream buffer n i j run) given
   after_accepted e =
       after_yes (accepted_length (length buffer) (take n buffer) i j run given (accepted_held buffer n i j run given e).1).0
       (holds_accepted buffer n i j run given e)
 
   -- a refusal of the old stream, moved
-  moved : (r : Refusal) → verdict (take n buffer) ≡ Err r → edited_in buffer n i j run ≡ Joined given →
+  moved : (r : Refusal) → verdict (take n buffer) ≡ Err r → edited_in buffer n i j run ≡ Ok (Joined given) →
       Moved (edited_stream buffer n i j run) i j (length run) r
   moved r e answer =
       let h = joined_held buffer n i j run given answer in

@@ -3,19 +3,19 @@ use Prim.Native.Nat.{ℕ}
 use mathlib.Core.Path.{◌≡◌, refl, sym, ap, ◌∙◌}
 use mathlib.Core.List.{List}
 use Rattle.records.specs.declared.Record.{Record}
-use Rattle.reader.specs.declared.Answer.TheVariants.{Got}
-use Rattle.reader.specs.declared.Reading.{Reading}
-use Rattle.reader.specs.Reading.{got}
+use Rattle.reader.specs.Reading.{Answer, got}
 use Rattle.demands.specs.Reading.{Given, ReadUp, ends, goes}
 
 -- one reading has one next place and one record
-same_next : {a b : ℕ} {i j : Record} {x : Reading} → x ≡ got a i → x ≡ got b j → a ≡ b
-same_next {a} {b} e f =
-    let answers : Got a ≡ Got b = ap (λ (y : Reading). y.answer) (sym e ∙ f) in
+same_next : {a b : ℕ} {i j : Record} {x : Answer} → x ≡ got a i → x ≡ got b j → a ≡ b
+same_next {a} {b} {i} {j} e f =
+    let both : got a i ≡ got b j = sym e ∙ f in
     cc
 
-same_record_lem : {a b : ℕ} {i j : Record} {x : Reading} → x ≡ got a i → x ≡ got b j → i ≡ j
-same_record_lem e f = ap (λ (y : Reading). y.instruction) (sym e ∙ f)
+same_record_lem : {a b : ℕ} {i j : Record} {x : Answer} → x ≡ got a i → x ≡ got b j → i ≡ j
+same_record_lem {a} {b} {i} {j} e f =
+    let both : got a i ≡ got b j = sym e ∙ f in
+    cc
 
 -- so the reader goes one way
 pub one_reading_lem : {version : ℕ} {stream : List ℕ} {at : ℕ} {given others : List Given} →

@@ -1,5 +1,5 @@
 -- What holds of the versions without sizes, joined.
-use Rattle.std.specs.Prelude.{Some, Err}
+use Rattle.std.specs.Prelude.{Some, Ok, Err}
 use Prim.Native.Nat.{ℕ}
 use mathlib.Core.Path.{◌≡◌, sym, ◌∙◌}
 use mathlib.Core.Bool.{Bool, true, false}
@@ -25,9 +25,7 @@ use Rattle.blocks.proofs.Refused.{step_reason}
 use Rattle.cutting.proofs.OpcodeAlone.{opcode_alone}
 use Rattle.records.specs.declared.Record.{Record}
 use Rattle.records.specs.Record.{record_of}
-use Rattle.reader.specs.declared.Answer.{Answer}
-use Rattle.reader.specs.declared.Answer.TheVariants.{Got, Refused as Unread}
-use Rattle.reader.specs.Reading.{unread, read_judged, reading_at, reading}
+use Rattle.reader.specs.Reading.{Answer, unread, read_judged, reading_at, reading}
 use Rattle.demands.specs.Sizeless.{Sizeless}
 use Rattle.demands.proofs.WhereRefused.{Refusing, runs_out, unlawful, breaks, trails, StreamRefused, for_length, for_version, in_walk, stream_refused}
 
@@ -60,25 +58,25 @@ module _ (v : Version) (states_none : has_sizes v ≡ false) where
 
   -- the reader
   abbrev AnswerNot : Answer → Type 0
-  AnswerNot (Got next) = Unit {0}
-  AnswerNot (Unread r) = r.reason ≡ SIZE → ⊥
+  AnswerNot (Ok reading) = Unit {0}
+  AnswerNot (Err r) = r.reason ≡ SIZE → ⊥
 
-  judged_not : (at : ℕ) (instruction : Record) (judgement : Judged) → NotSize judgement → AnswerNot (read_judged judgement at instruction).answer
+  judged_not : (at : ℕ) (instruction : Record) (judgement : Judged) → NotSize judgement → AnswerNot (read_judged judgement at instruction)
   judged_not at instruction (good_instruction size class) h = tt
   judged_not at instruction (bad_instruction r) h = h
 
   module _ (tokens : List ℕ) (at : ℕ) where
     place_not : (inside : Bool) →
-        AnswerNot (pick inside (read_judged (judged v (drop at tokens)) at (record_of v (drop at tokens))) (unread RUN_OUT (length tokens))).answer
+        AnswerNot (pick inside (read_judged (judged v (drop at tokens)) at (record_of v (drop at tokens))) (unread RUN_OUT (length tokens)))
     place_not true = judged_not at (record_of v (drop at tokens)) (judged v (drop at tokens)) (no_size v (drop at tokens) states_none)
     place_not false = λ e. apart (cc)
 
-    length_not : (few : Bool) → AnswerNot (pick few (reading_at v tokens at) (unread LENGTH 0)).answer
+    length_not : (few : Bool) → AnswerNot (pick few (reading_at v tokens at) (unread LENGTH 0))
     unfolding reading_at
     length_not true = place_not (ltb at (length tokens))
     length_not false = λ e. apart (cc)
 
-    reads_not : AnswerNot (reading (version_token v) tokens at).answer
+    reads_not : AnswerNot (reading (version_token v) tokens at)
     unfolding reading
     reads_not = rw (named_back v) (length_not (leb (length tokens) most_tokens))
 

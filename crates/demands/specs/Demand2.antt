@@ -16,7 +16,6 @@ use Rattle.records.specs.declared.Record.{Record}
 use Rattle.reader.specs.Reading.{got, reading}
 use Rattle.listing.specs.Listing.{records_of, counted}
 use Rattle.record_tokens.specs.Tokens.{Words}
-use Rattle.writer.specs.declared.Written.TheVariants.{Wrote}
 use Rattle.writer.specs.Buffer.{pasted}
 use Rattle.writer.specs.Writing.{told_writing, Writes}
 use Rattle.writer.specs.InOrder.{WritesAll}
@@ -82,4 +81,4 @@ pub record Demand2 : Type 0 where
   -- A writer that cuts a field that is too large to its bits is ruled out: another record comes back.
   -- A writer that states a size one too large is ruled out: the written tokens alone run out.
   pub reads_back : (version : ℕ) (r : Record) (body buffer : List ℕ) (at next : ℕ) (after : List ℕ) →
-      Writes version r body buffer at (told_writing (Wrote next)) after → reading version (take (next - at) (drop at after)) 0 ≡ got (next - at) r
+      Writes version r body buffer at (told_writing (Ok next)) after → reading version (take (next - at) (drop at after)) 0 ≡ got (next - at) r

@@ -10,10 +10,9 @@ use Rattle.paper.specs.Versions.{named}
 use Rattle.paper.specs.Stream.{most_tokens, verdict}
 use Rattle.paper.specs.declared.Version.{Version}
 use Rattle.paper.specs.declared.Refusal.{Refusal}
-use Rattle.edit.specs.declared.Edited.{Edited}
-use Rattle.edit.specs.declared.Edited.TheVariants.{Joined, Accepted, Refused}
+use Rattle.edit.specs.declared.Edited.TheVariants.{Joined, Accepted}
 use Rattle.edit.specs.Boundaries.{standing_at, is_boundary}
-use Rattle.edit.specs.Edit.{splice, new_length, meets_at_end, on_verdict, edited_in, buffer_after}
+use Rattle.edit.specs.Edit.{Outcome, splice, new_length, meets_at_end, on_verdict, edited_in, buffer_after}
 use Rattle.edit.specs.Refusals.{edit_refusal, check_refusal}
 use Rattle.demands.specs.Reading.{ReadPlace}
 
@@ -38,8 +37,8 @@ abbrev pub edited_stream : List ℕ → ℕ → ℕ → ℕ → List ℕ → Lis
 edited_stream buffer n i j run = splice (take n buffer) i j run
 
 -- a yes of either kind, with the length that it gives
-abbrev pub SaysYes : Edited → ℕ → Type 0
-SaysYes answer given = (answer ≡ Joined given) ⊎ (answer ≡ Accepted given)
+abbrev pub SaysYes : Outcome → ℕ → Type 0
+SaysYes answer given = (answer ≡ Ok (Joined given)) ⊎ (answer ≡ Ok (Accepted given))
 
 -- a buffer that was `before` is `after`: it is as long, it holds this stream of so many tokens, and what lies past that is as before
 pub record Holds (before after stream : List ℕ) (tokens : ℕ) : Type 0 where
@@ -71,22 +70,22 @@ pub record Demand3 : Type 0 where
       Holds buffer (buffer_after buffer n i j run) (edited_stream buffer n i j run) given
   -- A refusal leaves the buffer as it was. This rules out an edit that leaves the run behind where the splice is refused, and one that
   -- splices wherever there is room.
-  pub no_keeps : (buffer : List ℕ) (n i j : ℕ) (run : List ℕ) (r : Refusal) → edited_in buffer n i j run ≡ Refused r →
+  pub no_keeps : (buffer : List ℕ) (n i j : ℕ) (run : List ℕ) (r : Refusal) → edited_in buffer n i j run ≡ Err r →
       buffer_after buffer n i j run ≡ buffer
   -- Which yes it is, of any old stream of at most 16,384 tokens, accepted or refused: JOINED exactly if the two walks have the same blocks open at the run's end,
   -- and else what a check of the edited stream says. This rules out an edit that never says JOINED, and one that says JOINED of a refused
   -- stream because the edited one is accepted.
   pub which_yes : (buffer : List ℕ) (n i j : ℕ) (run : List ℕ) → n ≤ most_tokens → (h : Replaces buffer n i j run) →
       edited_in buffer n i j run ≡
-      pick (meets_at_end h.first.version (take n buffer) i j run) (Joined (length (edited_stream buffer n i j run)))
+      pick (meets_at_end h.first.version (take n buffer) i j run) (Ok (Joined (length (edited_stream buffer n i j run))))
       (on_verdict (verdict (edited_stream buffer n i j run)) (length (edited_stream buffer n i j run)))
   -- "although the edit stops reading early where it may": two buffers of one length with the same first j tokens are both JOINED or neither
   -- is. This rules out an edit that says JOINED only of an accepted stream, and one that looks for END behind j before it says JOINED.
   pub joined_reads_no_more : (one other : List ℕ) (n i j : ℕ) (run : List ℕ) (given : ℕ) → length one ≡ length other → take j one ≡ take j other →
-      edited_in one n i j run ≡ Joined given → edited_in other n i j run ≡ Joined given
+      edited_in one n i j run ≡ Ok (Joined given) → edited_in other n i j run ≡ Ok (Joined given)
   -- JOINED of a refused stream: a check of the edited stream, which is what the buffer then holds, refuses with the same number at the
   -- moved position. This rules out an edit that says JOINED where the run made the stream lawful, and one that says it where the run broke
   -- the stream before the old refusal.
   pub joined_of_refused : (buffer : List ℕ) (n i j : ℕ) (run : List ℕ) (given : ℕ) (r : Refusal) → verdict (take n buffer) ≡ Err r →
-      edited_in buffer n i j run ≡ Joined given →
+      edited_in buffer n i j run ≡ Ok (Joined given) →
       Moved (edited_stream buffer n i j run) i j (length run) r × Moved (take given (buffer_after buffer n i j run)) i j (length run) r

@@ -14,7 +14,6 @@ use Rattle.paper.specs.declared.Refusal.{Refusal}
 use Rattle.paper.specs.declared.Class.{Class}
 use Rattle.cutting.specs.Cuttings.{Alone}
 use Rattle.cutting.specs.CutBy.{is_comment}
-use Rattle.reader.specs.declared.Answer.TheVariants.{Refused as Unread}
 use Rattle.reader.specs.Reading.{reading}
 
 -- a version whose instructions state no size
@@ -22,7 +21,7 @@ pub record Sizeless (v : Version) (states_none : has_sizes v ≡ false) : Type 0
   -- A check that holds a claimed size against the operands is ruled out: there is none to be wrong.
   pub check : (stream : List ℕ) (r : Refusal) → named (get_or stream 0 0) ≡ Some v → verdict stream ≡ Err r → r.reason ≡ SIZE → ⊥
   -- So is a reader that does.
-  pub read : (tokens : List ℕ) (at : ℕ) (r : Refusal) → (reading (version_token v) tokens at).answer ≡ Unread r → r.reason ≡ SIZE → ⊥
+  pub read : (tokens : List ℕ) (at : ℕ) (r : Refusal) → reading (version_token v) tokens at ≡ Err r → r.reason ≡ SIZE → ⊥
   -- Two lawful instructions with one opcode, which is no comment's, have as many tokens, whatever else they hold.
   pub opcode : (first other : ℕ) (rest more : List ℕ) (c d : Class) → is_comment first ≡ false → opcode_of first ≡ opcode_of other →
       Alone v first rest c → Alone v other more d → length rest ≡ length more

@@ -8,7 +8,7 @@ use native.Mathlib.Omega.{arith}
 use lib.Dec.{eqb, lit<}
 use lib.ListN.{length, drop, get_or, drop_of_length-le}
 use lib.Seq.{drop-cons}
-use borrow.Author.Tests.{eq-eqb, ne_eqb, eqb-true, eqb-false}
+use borrow.Author.Tests.{ne_eqb, eqb-true, eqb-false}
 use Rattle.paper.specs.Notation.{bits, bit, pick}
 use Rattle.paper.specs.Versions.{is_pixel, has_sizes}
 use Rattle.paper.specs.OperandTokens.{relative_sources, relative_destinations, marked_sources, has_shift_scale, is_free, both_laid, source_modifier, modifier_of, laid, type_of, token_at, brings_relative, left_over}
@@ -23,6 +23,8 @@ use Rattle.versions.specs.Sets.{holds}
 use Rattle.tokens.specs.Plain.{plain_source}
 use Rattle.tokens.specs.Good.{good_written, source_laid_in, good_read}
 use Rattle.layout.proofs.Layouts.{destination_order}
+use Rattle.std.specs.Prelude.{Result, is_ok}
+use Rattle.tokens.specs.declared.Wrong.{Wrong}
 use Rattle.tokens.specs.Brief.{brief}
 use Rattle.tokens.proofs.TokenAt.{plain_source_laid, brief_good}
 use Rattle.operands.proofs.OperandAt.{relative_at, operand_at}
@@ -39,18 +41,13 @@ took_pick true next other = refl
 took_pick false next other = refl
 
 -- the relative token
-module _ (v : Version) (offset at told : ℕ) (behind : List ℕ) (h : at < length behind) (e : told ≡ brief v relative (get_or behind at 0)) where
-  told_good : eqb told 0 ≡ is_good (token_at v relative (get_or behind at 0))
+module _ (v : Version) (offset at : ℕ) (told : Result (Unit {0}) Wrong) (behind : List ℕ) (h : at < length behind) (e : told ≡ brief v relative (get_or behind at 0)) where
+  told_good : is_ok told ≡ is_good (token_at v relative (get_or behind at 0))
   told_good = rw e (brief_good v relative (get_or behind at 0))
 
-  took : took_in (relative_token v offset (drop at behind)) ≡ pick (is_good (token_at v relative (get_or behind at 0))) 2 0
-  took = rw (relative_at v offset at behind h) (took_by (token_at v relative (get_or behind at 0)) offset (operand_taken 2))
-
-  pub relative_took : told ≡ 0 → took_in (relative_token v offset (drop at behind)) ≡ 2
-  relative_took z = rw took (rw (sym told_good ∙ eq-eqb told 0 z) refl)
-
-  pub relative_refused : (told ≡ 0 → ⊥) → took_in (relative_token v offset (drop at behind)) ≡ 0
-  relative_refused z = rw took (rw (sym told_good ∙ ne_eqb told 0 z) refl)
+  pub relative_took : took_in (relative_token v offset (drop at behind)) ≡ pick (is_ok told) 2 0
+  relative_took =
+      rw (relative_at v offset at behind h, told_good) (took_by (token_at v relative (get_or behind at 0)) offset (operand_taken 2))
 
 -- what sizes have to do with bit 13
 implied : (a b : Bool) → not a || b ≡ true → a ≡ true → b ≡ true

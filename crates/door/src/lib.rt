@@ -25,7 +25,7 @@ fn take_relative(version: Version, behind: &[u32], at: usize) -> usize
     if behind.len() <= at {
         return 0;
     }
-    if tokens::judge_relative(version, behind[at]) == 0 {
+    if tokens::judge_relative(version, behind[at]).is_ok() {
         return 2;
     }
     0

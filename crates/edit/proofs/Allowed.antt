@@ -1,5 +1,5 @@
 -- An edit that is not refused before the splice is walked: what is then known of the old stream, of the places and of the splice.
-use Rattle.std.specs.Prelude.{Option, Some, None}
+use Rattle.std.specs.Prelude.{Option, Some, None, Ok}
 use Prim.Native.Nat.{ℕ, ◌≤◌, ◌<◌}
 use mathlib.Core.Path.{◌≡◌, refl, ap, ◌∙◌}
 use mathlib.Core.Bool.{Bool, true, false, ◌&&◌}
@@ -17,10 +17,9 @@ use Rattle.paper.specs.Stream.{walked, verdict, most_tokens, length_laid}
 use Rattle.paper.specs.declared.Version.{Version}
 use Rattle.paper.specs.declared.Reason.{Reason}
 use Rattle.paper.specs.declared.Reason.TheVariants.{Length as LENGTH, Version as VERSION, Place as PLACE, Room as ROOM}
-use Rattle.edit.specs.declared.Edited.{Edited}
 use Rattle.edit.specs.declared.Edited.TheVariants.{Joined, Accepted}
 use Rattle.edit.specs.Boundaries.{stands_with, standing_at, is_boundary}
-use Rattle.edit.specs.Edit.{splice, new_length, placed, fits, spliced, edit_refused, edit_named, edited, edited_in}
+use Rattle.edit.specs.Edit.{splice, new_length, placed, fits, spliced, edit_refused, edit_named, edited, edited_in, Outcome}
 use Rattle.edit.proofs.Standing.{ahead, standing_comes}
 use Rattle.paper.proofs.Bools.{apart, both}
 use Rattle.edit.proofs.Prefix.{splice_length}
@@ -60,23 +59,23 @@ places v old i j e =
     }
 
 -- an answer that no refusal of these gives is what stands behind the test
-past : (answer : Edited) → ((reason : Reason) → edit_refused reason ≡ answer → ⊥) →
-    (b : Bool) (next : Edited) (reason : Reason) → pick b next (edit_refused reason) ≡ answer → (b ≡ true) × (next ≡ answer)
+past : (answer : Outcome) → ((reason : Reason) → edit_refused reason ≡ answer → ⊥) →
+    (b : Bool) (next : Outcome) (reason : Reason) → pick b next (edit_refused reason) ≡ answer → (b ≡ true) × (next ≡ answer)
 past answer other true next reason e = (refl, e)
 past answer other false next reason e = absurd (other reason e)
 
 -- a yes is none of them
-joined_other : (n : ℕ) (reason : Reason) → edit_refused reason ≡ Joined n → ⊥
+joined_other : (n : ℕ) (reason : Reason) → edit_refused reason ≡ Ok (Joined n) → ⊥
 joined_other n reason e = apart (cc)
 
-accepted_other : (n : ℕ) (reason : Reason) → edit_refused reason ≡ Accepted n → ⊥
+accepted_other : (n : ℕ) (reason : Reason) → edit_refused reason ≡ Ok (Accepted n) → ⊥
 accepted_other n reason e = apart (cc)
 
 module _ (room : ℕ) (old : List ℕ) (i j : ℕ) (run : List ℕ) where
-  after_place_lem : Version → Edited
+  after_place_lem : Version → Outcome
   after_place_lem v = pick (fits room (new_length (length old) i j (length run))) (spliced v old i j run) (edit_refused ROOM)
 
-  after_version_lem : Version → Edited
+  after_version_lem : Version → Outcome
   after_version_lem v = pick (placed v old i j) (after_place_lem v) (edit_refused PLACE)
 
   -- an edit that is allowed is answered by the splice
@@ -89,7 +88,7 @@ module _ (room : ℕ) (old : List ℕ) (i j : ℕ) (run : List ℕ) where
       ∙ ap (λ (b : Bool). pick b (spliced v old i j run) (edit_refused ROOM)) a.fit
 
   -- an answer that none of the four refusals gives is the splice's, and the edit is allowed
-  module _ (answer : Edited) (other : (reason : Reason) → edit_refused reason ≡ answer → ⊥) where
+  module _ (answer : Outcome) (other : (reason : Reason) → edit_refused reason ≡ answer → ⊥) where
     past_version : (x : Option Version) → edit_named x after_version_lem ≡ answer → (v : Version) × (x ≡ Some v) × (after_version_lem v ≡ answer)
     past_version (Some v) e = (v, refl, e)
     past_version None e = absurd (other VERSION e)
@@ -103,24 +102,24 @@ module _ (room : ℕ) (old : List ℕ) (i j : ℕ) (run : List ℕ) where
         let r = past answer other (fits room (new_length (length old) i j (length run))) (spliced w.0 old i j run) ROOM p.1 in
         (w.0, record { laid = l.0; known = w.1; place = p.0; fit = r.0 }, r.1)
 
-  pub joined_allowed : (n : ℕ) → edited room old i j run ≡ Joined n → (v : Version) × Allowed room old i j run v × (spliced v old i j run ≡ Joined n)
-  joined_allowed n e = answer_allowed (Joined n) (joined_other n) e
+  pub joined_allowed : (n : ℕ) → edited room old i j run ≡ Ok (Joined n) → (v : Version) × Allowed room old i j run v × (spliced v old i j run ≡ Ok (Joined n))
+  joined_allowed n e = answer_allowed (Ok (Joined n)) (joined_other n) e
 
-  pub accepted_allowed : (n : ℕ) → edited room old i j run ≡ Accepted n → (v : Version) × Allowed room old i j run v × (spliced v old i j run ≡ Accepted n)
-  accepted_allowed n e = answer_allowed (Accepted n) (accepted_other n) e
+  pub accepted_allowed : (n : ℕ) → edited room old i j run ≡ Ok (Accepted n) → (v : Version) × Allowed room old i j run v × (spliced v old i j run ≡ Ok (Accepted n))
+  accepted_allowed n e = answer_allowed (Ok (Accepted n)) (accepted_other n) e
 
 -- a yes in a buffer is one of the first n tokens, which the buffer holds
 module _ (buffer : List ℕ) (n i j : ℕ) (run : List ℕ) (k : ℕ) where
-  pub joined_held : edited_in buffer n i j run ≡ Joined k → (n ≤ length buffer) × (edited (length buffer) (take n buffer) i j run ≡ Joined k)
+  pub joined_held : edited_in buffer n i j run ≡ Ok (Joined k) → (n ≤ length buffer) × (edited (length buffer) (take n buffer) i j run ≡ Ok (Joined k))
   unfolding edited_in
   joined_held e =
-      let h = past (Joined k) (joined_other k) (leb n (length buffer)) (edited (length buffer) (take n buffer) i j run) LENGTH e in
+      let h = past (Ok (Joined k)) (joined_other k) (leb n (length buffer)) (edited (length buffer) (take n buffer) i j run) LENGTH e in
       (leb-true n (length buffer) h.0, h.1)
 
-  pub accepted_held : edited_in buffer n i j run ≡ Accepted k → (n ≤ length buffer) × (edited (length buffer) (take n buffer) i j run ≡ Accepted k)
+  pub accepted_held : edited_in buffer n i j run ≡ Ok (Accepted k) → (n ≤ length buffer) × (edited (length buffer) (take n buffer) i j run ≡ Ok (Accepted k))
   unfolding edited_in
   accepted_held e =
-      let h = past (Accepted k) (accepted_other k) (leb n (length buffer)) (edited (length buffer) (take n buffer) i j run) LENGTH e in
+      let h = past (Ok (Accepted k)) (accepted_other k) (leb n (length buffer)) (edited (length buffer) (take n buffer) i j run) LENGTH e in
       (leb-true n (length buffer) h.0, h.1)
 
 -- the verdict of a stream with a lawful length and version is its walk's

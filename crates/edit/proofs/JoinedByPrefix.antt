@@ -1,4 +1,5 @@
 -- JOINED reads nothing from j on: whether an edit is JOINED is decided by the first j tokens of the old stream, the run, and the lengths of stream and buffer.
+use Rattle.std.specs.Prelude.{Ok}
 use Prim.Native.Nat.{ℕ, ◌+◌, ◌≤◌}
 use mathlib.Core.Path.{◌≡◌, ap, sym, ◌∙◌}
 use mathlib.Core.Bool.{true}
@@ -48,7 +49,7 @@ module _ (old other : List ℕ) (i j : ℕ) (run : List ℕ) (as_long : length o
         (omega (arith, splice_length other i j run (omega arith))) m.2)
 
   -- Two streams of one length with the same first j tokens: where the edit of the one is JOINED, so is that of the other, with the same length.
-  pub joined_as_well : (room k : ℕ) → edited room old i j run ≡ Joined k → edited room other i j run ≡ Joined k
+  pub joined_as_well : (room k : ℕ) → edited room old i j run ≡ Ok (Joined k) → edited room other i j run ≡ Ok (Joined k)
   joined_as_well room k e =
       let a = joined_allowed room old i j run k e in
       let p = places a.0 old i j a.1.place in
@@ -61,10 +62,10 @@ module _ (old other : List ℕ) (i j : ℕ) (run : List ℕ) (as_long : length o
         place = same_places a.0 p;
         fit = ap (λ (n : ℕ). fits room (new_length n i j (length run))) (sym as_long) ∙ a.1.fit;
       } in
-      allowed_answer room other i j run a.0 allowed ∙ rw (same_meeting a.0 p m.0) (ap Joined (ap (λ (n : ℕ). new_length n i j (length run)) (sym as_long) ∙ m.1))
+      allowed_answer room other i j run a.0 allowed ∙ rw (same_meeting a.0 p m.0) (ap (λ (n : ℕ). Ok (Joined n)) (ap (λ (n : ℕ). new_length n i j (length run)) (sym as_long) ∙ m.1))
 
 one_way : (b c : List ℕ) (n i j : ℕ) (run : List ℕ) (k : ℕ) → length b ≡ length c → take j b ≡ take j c →
-    edited_in b n i j run ≡ Joined k → edited_in c n i j run ≡ Joined k
+    edited_in b n i j run ≡ Ok (Joined k) → edited_in c n i j run ≡ Ok (Joined k)
 unfolding edited_in
 one_way b c n i j run k as_long same e =
     let h = joined_held b n i j run k e in
@@ -80,5 +81,5 @@ one_way b c n i j run k as_long same e =
 
 -- Two buffers of one length with the same first j tokens, edited with the same n, i, j and run: both are JOINED or neither is, with the same length.
 pub joined_by_prefix : (b c : List ℕ) (n i j : ℕ) (run : List ℕ) (k : ℕ) → length b ≡ length c → take j b ≡ take j c →
-    (edited_in b n i j run ≡ Joined k → edited_in c n i j run ≡ Joined k) × (edited_in c n i j run ≡ Joined k → edited_in b n i j run ≡ Joined k)
+    (edited_in b n i j run ≡ Ok (Joined k) → edited_in c n i j run ≡ Ok (Joined k)) × (edited_in c n i j run ≡ Ok (Joined k) → edited_in b n i j run ≡ Ok (Joined k))
 joined_by_prefix b c n i j run k as_long same = (one_way b c n i j run k as_long same, one_way c b n i j run k (sym as_long) (sym same))

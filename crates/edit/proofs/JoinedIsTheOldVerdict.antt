@@ -53,7 +53,7 @@ joined_walked v old i j run order e =
     ∙ ap (moved (count_of (cut_from v (splice old i j run) 1)) f) (sym (walked_nesting v old))
 
 -- a walk from p on is refused at p or later
-position_of : (x r : Refusal) → Err x ≡ Err r → x.position ≡ r.position
+position_of : (x r : Refusal) → ◌≡◌ {A = Verdict} (Err x) (Err r) → x.position ≡ r.position
 position_of x r e = let same : x ≡ r = cc in ap (λ (y : Refusal). y.position) same
 
 late_end : (n : ℕ) (c : Cut) (r : Refusal) → at_end n c ≡ Err r → start_of c ≡ r.position
@@ -98,12 +98,12 @@ pub carried_by : (i j m p : ℕ) → i ≤ j → j ≤ p → carried i j m p + (
 carried_by i j m p h l = rw (le-leb j p l) (omega arith)
 
 -- a splice is JOINED only where the states meet
-joined_when : (b : Bool) (x : Verdict) (m n : ℕ) → pick b (Joined m) (on_verdict x m) ≡ Joined n → (b ≡ true) × (m ≡ n)
+joined_when : (b : Bool) (x : Verdict) (m n : ℕ) → pick b (Ok (Joined m)) (on_verdict x m) ≡ Ok (Joined n) → (b ≡ true) × (m ≡ n)
 joined_when true x m n e = (refl, cc)
 joined_when false (Ok c) m n e = apart (cc)
 joined_when false (Err r) m n e = apart (cc)
 
-pub joined_meets : (v : Version) (old : List ℕ) (i j : ℕ) (run : List ℕ) (n : ℕ) → spliced v old i j run ≡ Joined n →
+pub joined_meets : (v : Version) (old : List ℕ) (i j : ℕ) (run : List ℕ) (n : ℕ) → spliced v old i j run ≡ Ok (Joined n) →
     (meets_at_end v old i j run ≡ true) × (new_length (length old) i j (length run) ≡ n)
 joined_meets v old i j run n e =
     joined_when (meets_at_end v old i j run) (walked v (splice old i j run)) (new_length (length old) i j (length run)) n e
@@ -125,7 +125,7 @@ module _ (v : Version) (old : List ℕ) (i j : ℕ) (run : List ℕ) (order : i 
       ∙ rw (le-leb j r.position behind) refl
 
 -- An edit that is JOINED:
-module _ (room : ℕ) (old : List ℕ) (i j : ℕ) (run : List ℕ) (n : ℕ) (answer : edited room old i j run ≡ Joined n) where
+module _ (room : ℕ) (old : List ℕ) (i j : ℕ) (run : List ℕ) (n : ℕ) (answer : edited room old i j run ≡ Ok (Joined n)) where
   -- the splice is accepted if the old stream was;
   pub joined_accepted : (c : ℕ) → verdict old ≡ Ok c → (d : ℕ) × (verdict (splice old i j run) ≡ Ok d)
   joined_accepted c e =

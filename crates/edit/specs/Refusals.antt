@@ -3,14 +3,12 @@ use Rattle.std.specs.Prelude.{Ok, Err}
 use Rattle.std.proofs.Math.Option.{Option, none, some}
 use Rattle.paper.specs.declared.Refusal.{Refusal}
 use Rattle.paper.specs.Judgements.{Verdict}
-use Rattle.edit.specs.declared.Edited.{Edited}
-use Rattle.edit.specs.declared.Edited.TheVariants.{Joined, Accepted, Refused}
+use Rattle.edit.specs.Edit.{Outcome}
 
 -- of an edit
-abbrev pub edit_refusal : Edited → Option Refusal
-edit_refusal (Joined n) = none
-edit_refusal (Accepted n) = none
-edit_refusal (Refused r) = some r
+abbrev pub edit_refusal : Outcome → Option Refusal
+edit_refusal (Ok edited) = none
+edit_refusal (Err r) = some r
 
 -- of a check
 abbrev pub check_refusal : Verdict → Option Refusal

@@ -3,10 +3,12 @@
 
 use paper::Refusal;
 
-// An edit, answered: both yeses give the new length.
+// A yes to an edit, with the new length.
 #[derive(Clone, Copy)]
 pub enum Edited {
     Joined(usize),
     Accepted(usize),
-    Refused(Refusal),
 }
+
+// An edit, answered.
+pub type Outcome = Result<Edited, Refusal>;

@@ -1,4 +1,7 @@
 -- The answer of an edit, in the order of document 01: LENGTH, VERSION, PLACE, ROOM, and what the buffer holds after a yes.
+use Rattle.std.specs.Prelude.{Result, Ok, Err}
+use Rattle.std.specs.Result.{IsErrAnd}
+use Rattle.std.proofs.lemmas.Result.{err_from_is_err_and}
 use Prim.Native.Nat.{ℕ, ◌≤◌, ◌<◌}
 use mathlib.Core.Path.{◌≡◌, refl, ap, sym, ◌∙◌}
 use mathlib.Core.List.{List, ◌++◌}
@@ -13,9 +16,9 @@ use Rattle.paper.specs.declared.Version.{Version}
 use Rattle.paper.specs.declared.Refusal.{Refusal}
 use Rattle.paper.specs.declared.Reason.TheVariants.{Length as LENGTH, Place as PLACE, Room as ROOM}
 use Rattle.edit.specs.declared.Edited.{Edited}
-use Rattle.edit.specs.declared.Edited.TheVariants.{Joined, Accepted, Refused}
+use Rattle.edit.specs.declared.Edited.TheVariants.{Joined, Accepted}
 use Rattle.edit.specs.Boundaries.{Standing, nowhere, stands_with, standing_at}
-use Rattle.edit.specs.Edit.{splice, new_length, spliced, edit_refused, edit_named, edited, edited_in, held_after, buffer_after}
+use Rattle.edit.specs.Edit.{splice, new_length, spliced, edit_refused, edit_named, edited, edited_in, held_after, buffer_after, Outcome}
 use Rattle.edit.proofs.Standing.{reached_standing, standing_reached}
 use Rattle.edit.proofs.Allowed.{Allowed, places, new_length_lem, joined_allowed, accepted_allowed, joined_held, accepted_held}
 use Rattle.edit.proofs.BufferHoldsTheSplice.{joined_length, accepted_length}
@@ -24,6 +27,14 @@ use Rattle.splicer.specs.Splicing.{with_run, spliced_in}
 use Rattle.splicer.proofs.Answers.{run_taken}
 use Rattle.editor.specs.Found.{Between}
 use Rattle.editor.specs.Answers.{after_place, after_version}
+
+-- what a `?` behind an `ok_or` returns
+pub exit : {T U : Type 0} {r : Result U Refusal} {given refusal : Refusal} → IsErrAnd r (λ x. x ≡ given) →
+    ◌≡◌ {A = Result T Refusal} (Err given) (Err refusal) → r ≡ Err refusal
+exit {r = r} {given = given} {refusal = refusal} h e =
+    let p = err_from_is_err_and r h in
+    let same : given ≡ refusal = cc in
+    p.1 ∙ ap Err (p.2 ∙ same)
 
 -- PLACE
 module _ (v : Version) (old : List ℕ) where
@@ -118,24 +129,22 @@ module _ (buffer : List ℕ) (n i j : ℕ) (run : List ℕ) where
         run_taken buffer n i j run p.order (omega arith) inside (omega arith) ∙ ap (λ (x : ℕ). splice (take n buffer) i j run ++ drop x buffer) size
 
     -- after a yes the buffer holds the splice
-    after_joined : edited_in buffer n i j run ≡ Joined k → spliced_in buffer n i j run ≡ buffer_after buffer n i j run
+    after_joined : edited_in buffer n i j run ≡ Ok (Joined k) → spliced_in buffer n i j run ≡ buffer_after buffer n i j run
     unfolding buffer_after
     after_joined e =
         let h = joined_held buffer n i j run k e in
         let a = joined_allowed (length buffer) (take n buffer) i j run k h.1 in
         let l = joined_length (length buffer) (take n buffer) i j run k h.1 in
-        taken a.0 h.0 a.1 l.0 l.1 ∙ sym (ap (λ (x : Edited). held_after x buffer n i j run) e)
+        taken a.0 h.0 a.1 l.0 l.1 ∙ sym (ap (λ (x : Outcome). held_after x buffer n i j run) e)
 
-    after_accepted : edited_in buffer n i j run ≡ Accepted k → spliced_in buffer n i j run ≡ buffer_after buffer n i j run
+    after_accepted : edited_in buffer n i j run ≡ Ok (Accepted k) → spliced_in buffer n i j run ≡ buffer_after buffer n i j run
     unfolding buffer_after
     after_accepted e =
         let h = accepted_held buffer n i j run k e in
         let a = accepted_allowed (length buffer) (take n buffer) i j run k h.1 in
         let l = accepted_length (length buffer) (take n buffer) i j run k h.1 in
-        taken a.0 h.0 a.1 l.0 l.1 ∙ sym (ap (λ (x : Edited). held_after x buffer n i j run) e)
+        taken a.0 h.0 a.1 l.0 l.1 ∙ sym (ap (λ (x : Outcome). held_after x buffer n i j run) e)
 
-  -- a yes is an answer that does not refuse
-  pub after_yes : (x : Edited) → ((r : Refusal) → x ≡ Refused r → ⊥) → edited_in buffer n i j run ≡ x → spliced_in buffer n i j run ≡ buffer_after buffer n i j run
-  after_yes (Joined k) h e = after_joined k e
-  after_yes (Accepted k) h e = after_accepted k e
-  after_yes (Refused r) h e = absurd (h r refl)
+  pub after_yes : (x : Edited) → edited_in buffer n i j run ≡ Ok x → spliced_in buffer n i j run ≡ buffer_after buffer n i j run
+  after_yes (Joined k) e = after_joined k e
+  after_yes (Accepted k) e = after_accepted k e

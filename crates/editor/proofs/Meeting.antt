@@ -1,4 +1,5 @@
 -- Where the walk of the splice meets the old one, and what the edit answers where it does and where it does not.
+use Rattle.std.specs.Prelude.{Ok}
 use Prim.Native.Nat.{ℕ, ◌+◌, ◌-◌, ◌<◌}
 use mathlib.Core.Path.{◌≡◌, refl, ap, sym, ◌∙◌}
 use mathlib.Core.Bool.{Bool, true, false, ◌&&◌, beq}
@@ -9,10 +10,9 @@ use lib.ListN.{length}
 use borrow.Author.Tests.{eqb-true, eq-eqb, le-ltb, ltb-true, ltb-false}
 use Rattle.paper.specs.Walk.{WalkState}
 use Rattle.paper.specs.declared.Version.{Version}
-use Rattle.edit.specs.declared.Edited.{Edited}
 use Rattle.edit.specs.declared.Edited.TheVariants.{Joined}
 use Rattle.edit.specs.Boundaries.{nowhere, stands_with, standing_at}
-use Rattle.edit.specs.Edit.{splice, new_length, meets_at_end, on_verdict, spliced}
+use Rattle.edit.specs.Edit.{splice, new_length, meets_at_end, on_verdict, spliced, Outcome}
 use Rattle.edit.proofs.Standing.{reached_standing}
 use Rattle.paper.proofs.Bools.{apart, and_false, both}
 use Rattle.edit.proofs.Prefix.{splice_length}
@@ -48,7 +48,7 @@ module _ (v : Version) (old : List ℕ) (first last : State) (run : List ℕ) wh
   abbrev whole : ℕ
   whole = end + (length old - last.at)
 
-  abbrev answer : Edited
+  abbrev answer : Outcome
   answer = spliced v old first.at last.at run
 
   abbrev Meets : Bool → Type 0
@@ -109,7 +109,7 @@ module _ (v : Version) (old : List ℕ) (first last : State) (run : List ℕ) wh
           this false m = refl
 
       -- JOINED
-      pub turn_joined : meets_at state ≡ true → Joined whole ≡ answer
+      pub turn_joined : meets_at state ≡ true → Ok (Joined whole) ≡ answer
       turn_joined met =
           let t = all_equal state.at end state.kinds last.kinds state.phased last.phased met in
           rw (meets_here t.0 t.1 t.2, as_told)

@@ -1,4 +1,5 @@
 -- A walk with a boundary ahead goes on to it, and stops before it only where there is none.
+use Rattle.std.specs.Bool.{then_some}
 use Prim.Native.Nat.{ℕ, suc, ◌+◌, ◌≤◌, ◌<◌}
 use mathlib.Core.Path.{◌≡◌, refl, ap, sym, ◌∙◌}
 use mathlib.Core.Bool.{Bool, true, false}
@@ -21,7 +22,7 @@ use Rattle.walk.specs.Steps.{behind_of, goes_on}
 use Rattle.walk.specs.Stands.{Stands, step_at, Comes}
 use Rattle.walk.proofs.OnStream.{next_said}
 use Rattle.walk.proofs.Comes.{comes_on, comes_not}
-use Rattle.editor.specs.Found.{FoundBy}
+use Rattle.editor.specs.Found.{FoundAt}
 
 -- where a step does not go on at a position or before it, that position is no boundary
 abbrev pub Misses : Version → List ℕ → ℕ → Step → Type 0
@@ -77,7 +78,7 @@ module _ (v : Version) (s : List ℕ) (state : State) (h : Stands v s state) (in
 
 -- behind the last step of a walk up to a position: it stands there, or the position is no boundary
 pub found_is : (v : Version) (s : List ℕ) (t : ℕ) (step : Step) → Comes v s 0 step → goes_on step t ≡ false → Misses v s t step → (b : Bool) → goes_on step (t + 1) ≡ b →
-    FoundBy v s t b step.state
+    FoundAt v s t (then_some b step.state)
 found_is v s t step c g m true e =
     let on = comes_on v s step t (comes_not v s step 0 c t g) (t + 1) e in
     (on.0, omega (arith, on.1, on.2))

@@ -1,14 +1,16 @@
 -- The tokens of a splice from i on, and the steps over them.
-use Prim.Native.Nat.{ℕ, ◌+◌, ◌-◌, ◌≤◌, ◌<◌}
+use Prim.Native.Nat.{ℕ, ◌+◌, ◌-◌, ◌≤◌, ◌<◌, min}
 use mathlib.Core.Path.{◌≡◌, refl, sym, ap, ◌∙◌}
 use mathlib.Core.Bool.{Bool, true, false}
-use mathlib.Core.List.{List, ◌++◌}
+use mathlib.Core.List.{List, ◌++◌, append_assoc}
 use native.Mathlib.Nat.{add-zero}
 use native.Mathlib.Omega.{arith}
 use lib.Dec.{leb}
-use lib.ListN.{length, take, drop, get_or, length-append, length-drop, get_or-append}
-use lib.Seq.{take_all, take-append-le, drop-append-add, drop-drop, get_or-drop, get_or-append-add, length-take-le}
+use lib.ListN.{length, take, drop, length-append, length-drop, take-append-drop}
+use lib.Seq.{take_all, take_at, take-append-le, drop-append-le, drop-append-add, drop-drop, length-take-le}
 use borrow.Author.Tests.{leb-true, leb-false}
+use borrow.Rule.Slice.PartMut.{put_mid}
+use Rattle.std.proofs.lemmas.Slice.{take-put_mid}
 use Rattle.paper.specs.Instruction.{judged}
 use Rattle.paper.specs.declared.Version.{Version}
 use Rattle.told.specs.Numbered.{judged_from}
@@ -41,18 +43,6 @@ step_part v s start n beyond at state inside h all place = rw place at (by (leb 
     by false e = end_moves v state s start n beyond inside at h (all (leb-false (at + most_shown) n e))
 
 module _ (run old : List ℕ) (j : ℕ) where
-  pub behind_length : length (behind_run run old j) ≡ length run + (length old - j)
-  unfolding behind_run
-  behind_length = simp (length-append, length-drop)
-
-  pub behind_in_run : (at : ℕ) → at < length run → get_or (behind_run run old j) at 0 ≡ get_or run at 0
-  unfolding behind_run
-  behind_in_run at h = get_or-append run (drop j old) 0 at h
-
-  pub behind_in_old : (at : ℕ) → get_or (behind_run run old j) (length run + at) 0 ≡ get_or old (j + at) 0
-  unfolding behind_run
-  behind_in_old at = get_or-append-add run (drop j old) at 0 ∙ get_or-drop j old at 0
-
   run_first : take (length run) (behind_run run old j) ≡ run
   unfolding behind_run
   run_first = take-append-le (length run) run (drop j old) (omega arith) ∙ take_all (length run) run (omega arith)
@@ -90,14 +80,38 @@ module _ (run old : List ℕ) (j : ℕ) where
           (step_part v stream i (length run) (length old - j) (state.at - i) state (omega (arith, splice_length old i j run inside)) (omega arith)
           (λ l. absurd (omega arith)) (omega arith))
 
-      -- the step over the run and old tokens behind it, of which so many are shown
-      pub step_gathered : (left shown : ℕ) (part : List ℕ) → state.at - i < length run →
-          left ≡ length run - (state.at - i) + (length old - j) → shown + (left - most_shown) ≡ left →
-          part ≡ take shown (drop (state.at - i) (behind_run run old j)) →
-          on_judged (judged_from (told_at v part (left - shown) 0)) state ≡ step_at v (splice old i j run) state
-      step_gathered left shown part within left_is shown-is part-is =
-          let k = state.at - i in
-          let stream = splice old i j run in
-          let long = splice_length old i j run inside in
-          let there : part ≡ take shown (drop (i + k) stream) = part-is ∙ ap (take shown) (sym (splice_behind k)) in
-          rw there (step_part v stream (i + k) shown (left - shown) 0 state (omega arith) (omega arith) (λ l. omega arith) (omega arith))
+      -- the step over the end of the run and old tokens behind it, gathered into a window
+      module _ (more : ℕ) (window own-part old-part : List ℕ) (within : state.at - i < length run) (few : length run - (state.at - i) ≤ most_shown)
+          (before : j ≤ length old) (more-is : more ≡ min (length old - j) (most_shown - (length run - (state.at - i))))
+          (own_is : own-part ≡ take (length run - (state.at - i)) (drop (state.at - i) run)) (old_is : old-part ≡ take more (drop j old)) where
+        abbrev own : ℕ
+        own = length run - (state.at - i)
+
+        abbrev gathered : List ℕ
+        gathered = take (own + more) (put_mid own (own + more - own) (own-part ++ window) old-part)
+
+        gathered_is : gathered ≡ take (own + more) (drop (state.at - i) (behind_run run old j))
+        unfolding behind_run
+        gathered_is =
+            let k = state.at - i in
+            let rest = drop j old in
+            let long : length (drop k run) ≡ own = omega (arith, length-drop k run) in
+            let all : own-part ≡ drop k run = own_is ∙ take_all own (drop k run) (omega (arith, length-drop k run)) in
+            let old_long : length old-part ≡ more = ap length old_is ∙ length-take-le more rest (omega (arith, length-drop j old)) in
+            let own_long : length own-part ≡ own = ap length all ∙ long in
+            let both_long : length (own-part ++ old-part) ≡ own + more = omega (arith, length-append own-part old-part) in
+            let put : gathered ≡ own-part ++ old-part =
+            take-put_mid own (own + more - own) (own-part ++ window) old-part (own + more) (omega arith) (omega (arith, length-append own-part window))
+            ∙ ap (λ (l : List ℕ). l ++ old-part) (take_at own-part window own own_long) in
+            let whole : drop k (run ++ rest) ≡ own-part ++ old-part ++ drop more rest =
+            drop-append-le k run rest (omega arith) ∙ rw (all, old_is, append_assoc, take-append-drop) in
+            put ∙ sym (ap (take (own + more)) whole ∙ take_at (own-part ++ old-part) (drop more rest) (own + more) both_long)
+
+        pub step_gathered : on_judged (judged_from (told_at v gathered (length old - j - more) 0)) state ≡ step_at v (splice old i j run) state
+        step_gathered =
+            let k = state.at - i in
+            let stream = splice old i j run in
+            let long = splice_length old i j run inside in
+            let shown = own + more in
+            let there : gathered ≡ take shown (drop (i + k) stream) = gathered_is ∙ ap (take shown) (sym (splice_behind k)) in
+            rw there (step_part v stream (i + k) shown (length old - j - more) 0 state (omega arith) (omega arith) (λ l. omega arith) (omega arith))

@@ -1,19 +1,15 @@
 -- Boundaries, as the code finds them.
-use Rattle.std.specs.Prelude.{ℕ, ◌+◌, ◌-◌, ◌≤◌, ◌<◌, ◌≡◌, Bool, true, false, List, length}
+use Rattle.std.specs.Prelude.{ℕ, ◌+◌, ◌-◌, ◌≤◌, ◌<◌, ◌≡◌, Option, Some, None, List, length}
 use Rattle.paper.specs.Stream.{most_tokens}
 use Rattle.paper.specs.declared.Version.{Version}
 use Rattle.edit.specs.Boundaries.{nowhere, standing_at}
 use Rattle.walk.specs.declared.State.{State}
 use Rattle.walk.specs.Stands.{Stands}
-use Rattle.editor.specs.declared.Found.{Found}
 
 -- the walk stands at the position so, or the position is no boundary
-abbrev pub FoundBy : Version → List ℕ → ℕ → Bool → State → Type 0
-FoundBy v s target true state = Stands v s state × (state.at ≡ target)
-FoundBy v s target false state = standing_at v s target ≡ nowhere
-
-abbrev pub FoundAt : Version → List ℕ → ℕ → Found → Type 0
-FoundAt v s target found = FoundBy v s target found.there found.state
+abbrev pub FoundAt : Version → List ℕ → ℕ → Option State → Type 0
+FoundAt v s target (Some state) = Stands v s state × (state.at ≡ target)
+FoundAt v s target None = standing_at v s target ≡ nowhere
 
 -- both places of an edit, in order
 pub record Between (v : Version) (old : List ℕ) (first last : State) : Type 0 where

@@ -1,9 +1,17 @@
 -- The faults of a token by sets of bits, and by the numbers of places.
-use Prim.Native.Nat.{ℕ, zero, suc, ◌+◌, ◌-◌, ◌<◌}
-use mathlib.Core.Path.{◌≡◌, refl, sym, ap}
+use Prim.Native.Nat.{ℕ, zero, suc, ◌+◌, ◌-◌, ◌^◌, ◌<◌, ◌≤◌, min, max}
+use mathlib.Core.Path.{◌≡◌, refl, sym, ap, ◌∙◌}
+use mathlib.Core.Logic.{◌≢◌}
 use mathlib.Core.Bool.{Bool, true, false, not, ◌&&◌, ◌||◌}
 use mathlib.Core.List.{List, [], ◌∷◌, ◌++◌}
-use native.Mathlib.Numerals.{add-one}
+use Rattle.std.specs.Prelude.{Option}
+use Rattle.std.specs.Option.{unwrap_or}
+use native.Mathlib.Nat.{max-zero}
+use Rattle.std.specs.Int.{w32, bit_at, trailing_zeros}
+use Rattle.std.specs.Int.RustNames.{bit_or}
+use lib.Bits.{bit_and}
+use Rattle.std.proofs.lemmas.Nat.{or_lt, and_le_l}
+use Rattle.std.proofs.lemmas.Nat.Bits.{bit_at_and, bit_at_or, bit_at-pow_same, bit_at-pow_other, bit_at-lt, bit_at-trailing_zeros}
 use native.Mathlib.Omega.{arith}
 use lib.Dec.{eqb, leb}
 use borrow.Author.Tests.{eqb-true}
@@ -21,22 +29,80 @@ use Rattle.places.proofs.Places.{by_place}
 use Rattle.versions.specs.Sets.{set_of, holds}
 use Rattle.versions.specs.Rows.{form_of}
 use Rattle.versions.proofs.Sets.{agrees, Agrees, set_among}
-use Rattle.versions.proofs.Forms.{form_by_lem}
+use Rattle.versions.specs.Forms.{form_number}
+use Rattle.versions.specs.declared.Form.{Form}
+use Rattle.versions.specs.declared.Form.TheVariants.{Sampler, Plain, Usage}
+use Rattle.versions.proofs.Forms.{by_form, form_by_lem}
 use Rattle.faults.specs.BySets.{offends_in}
 
--- the lowest bit, a step at a time
-pub lowest_here : (test : ℕ → Bool) (k n : ℕ) → 0 < n → test k ≡ true → lowest_from test k n ≡ k
+-- the lowest bit is the one below which none is told of
+lowest_is : (test : ℕ → Bool) (k n m : ℕ) → k ≤ m → m ≤ k + n → ((i : ℕ) → i < m → test i ≡ false) → (m < k + n → test m ≡ true) →
+    lowest_from test k n ≡ m
 unfolding lowest_from
-lowest_here test k zero h t = absurd (omega arith)
-lowest_here test k (suc n) h t = rw t
+lowest_is test k zero m low high none here = omega arith
+lowest_is test k (suc n) m low high none here =
+    by (test k) refl (λ less. lowest_is test (suc k) n m (omega arith) (omega arith) none (λ l. here (omega arith)))
+  where
+    by : (b : Bool) → test k ≡ b → (k < m → lowest_from test (suc k) n ≡ m) → pick b k (lowest_from test (suc k) n) ≡ m
+    by true t above = let least : k < m → ⊥ = λ less. never (sym (none k less) ∙ t) in omega arith
+    by false t above =
+        let other : k ≡ m → ⊥ = λ e. never (sym t ∙ rw e (here (omega arith))) in
+        above (omega arith)
 
-pub lowest_on : (test : ℕ → Bool) (k n m : ℕ) → n ≡ suc m → test k ≡ false → lowest_from test k n ≡ lowest_from test (k + 1) m
-unfolding lowest_from
-lowest_on test k n m e t = rw (e, t, add-one k)
+-- a bit of a mask, by those that it is made of
+mask_bit : (zero_bit token_bit field_bit : ℕ) → zero_bit < 2 → token_bit < 2 → field_bit < 2 →
+    eqb (max (min zero_bit token_bit) field_bit) 1 ≡ (eqb zero_bit 1 && eqb token_bit 1) || eqb field_bit 1
+mask_bit zero zero zero a b c = refl
+mask_bit zero zero (suc zero) a b c = refl
+mask_bit zero (suc zero) zero a b c = refl
+mask_bit zero (suc zero) (suc zero) a b c = refl
+mask_bit (suc zero) zero zero a b c = refl
+mask_bit (suc zero) zero (suc zero) a b c = refl
+mask_bit (suc zero) (suc zero) zero a b c = refl
+mask_bit (suc zero) (suc zero) (suc zero) a b c = refl
+mask_bit z t f a b c = absurd (omega arith)
 
-pub lowest_none : (test : ℕ → Bool) (k n : ℕ) → n ≡ 0 → lowest_from test k n ≡ k
-unfolding lowest_from
-lowest_none test k n z = rw z
+-- the lowest bit of the mask of the bits that offend, with bit 31 above them
+module _ (zeros fields token : ℕ) (z : zeros < 2 ^ 32) (t : token < 2 ^ 32) (f : fields < 2 ^ 32) where
+  abbrev mask : ℕ
+  mask = bit_or (bit_or (bit_and zeros token) fields) (2 ^ 31)
+
+  mask_offends : (k : ℕ) → k < 31 → eqb (bit_at mask k) 1 ≡ offends_in zeros fields token k
+  unfolding holds
+  mask_offends k less =
+      let other : k ≢ 31 = omega arith in
+      rw (
+        bit_at_or (bit_or (bit_and zeros token) fields) (2 ^ 31) k,
+        bit_at-pow_other 31 k other,
+        max-zero,
+        bit_at_or (bit_and zeros token) fields k,
+        bit_at_and zeros token k,
+      )
+      (mask_bit (bit_at zeros k) (bit_at token k) (bit_at fields k) (bit_at-lt zeros k) (bit_at-lt token k) (bit_at-lt fields k))
+
+  last_bit : bit_at mask 31 ≡ 1
+  last_bit = omega (arith, bit_at_or (bit_or (bit_and zeros token) fields) (2 ^ 31) 31, bit_at-pow_same 31, bit_at-lt mask 31)
+
+  mask_some : 0 < mask
+  mask_some = omega (arith, last_bit)
+
+  mask_fits : mask < 2 ^ 32
+  mask_fits = or_lt 32 (bit_or (bit_and zeros token) fields) (2 ^ 31) (or_lt 32 (bit_and zeros token) fields (omega (arith, and_le_l zeros token)) f) (omega arith)
+
+  abbrev found : (trailing_zeros w32 mask < 32) × (bit_at mask (trailing_zeros w32 mask) ≡ 1) × ((i : ℕ) → i < trailing_zeros w32 mask → bit_at mask i ≡ 0)
+  found = bit_at-trailing_zeros w32 mask mask_some mask_fits
+
+  pub lowest_bit : trailing_zeros w32 mask ≡ lowest (offends_in zeros fields token)
+  unfolding lowest
+  lowest_bit =
+      let m = trailing_zeros w32 mask in
+      sym
+      (lowest_is (offends_in zeros fields token) 0 31 m (omega arith) (omega (arith, found.0))
+      (λ i less. sym (mask_offends i (omega (arith, found.0))) ∙ rw (found.2 i less) refl)
+      (λ less. sym (mask_offends m less) ∙ rw found.1 refl))
+
+  pub few_bits : trailing_zeros w32 mask ≤ 31
+  few_bits = omega (arith, found.0)
 
 -- the lowest bit of two tests that agree
 lowest_same : (f g : ℕ → Bool) (k n : ℕ) → ((i : ℕ) → i < k + n → f i ≡ g i) → lowest_from f k n ≡ lowest_from g k n
@@ -77,24 +143,24 @@ two_agree true false = refl
 two_agree false true = refl
 two_agree false false = refl
 
-pub sampler_agrees : Agrees (span 26 0)
+sampler_agrees : Agrees (span 26 0)
 unfolding holds
 sampler_agrees = refl
 
-pub plain_agrees : Agrees (span 30 0)
+plain_agrees : Agrees (span 30 0)
 unfolding holds
 plain_agrees = refl
 
-pub usage_agrees : Agrees (span 15 5 ++ span 30 20)
+usage_agrees : Agrees (span 15 5 ++ span 30 20)
 unfolding holds
 usage_agrees = refl
 
-pub texture_agrees : (b : Bool) → Agrees (unless b 27)
+texture_agrees : (b : Bool) → Agrees (unless b 27)
 unfolding holds
 texture_agrees true = refl
 texture_agrees false = refl
 
-pub used_agrees : (b : Bool) → Agrees (unless b 0)
+used_agrees : (b : Bool) → Agrees (unless b 0)
 unfolding holds
 used_agrees true = refl
 used_agrees false = refl
@@ -160,18 +226,27 @@ module _ (v : Version) (token : ℕ) where
       (λ r d p e s. refl) (λ r d p e s. absurd (p refl)) (λ r d p e s. absurd (e refl)) (λ r d p e s. absurd (s refl))
       (λ n u h r d p e s. never (sym d)) (λ n u h r d p e s. refl)
 
-  -- U by the number of its form
-  pub usage_forms : (type : ℕ) →
-      let form = form_of v type in
-      usage_fault v type token ≡
-      fault_by token
-      (offends (pick (eqb form 1) (span 26 0) (pick (eqb form 2) (span 30 0) (span 15 5 ++ span 30 20)))
-      (pick (eqb form 1) (unless (leb 2 (bits 30 27 token) && leb (bits 30 27 token) 4) 27) (pick (eqb form 2) [] (unless (leb (bits 4 0 token) 13) 0)))
-      token)
-      true true
+  -- U by its form
+  abbrev sampled : Bool
+  sampled = leb 2 (bits 30 27 token) && leb (bits 30 27 token) 4
+
+  abbrev used : Bool
+  used = leb (bits 4 0 token) 13
+
+  pub usage_forms : (type : ℕ) (found : Option Form) (form : Form) → form_number found ≡ form_of v type → form ≡ unwrap_or found Usage →
+      by_form form (fault_by token (offends_in 0x7FFFFFF (set_of (unless sampled 27)) token) true true)
+      (fault_by token (offends_in 0x7FFFFFFF 0 token) true true)
+      (fault_by token (offends_in 0x7FF0FFE0 (set_of (unless used 0)) token) true true) ≡
+      usage_fault v type token
   unfolding usage_fault
-  usage_forms type =
-      rw (
-        form_by_lem v type (span 26 0) (span 30 0) (span 15 5 ++ span 30 20),
-        form_by_lem v type (unless (leb 2 (bits 30 27 token) && leb (bits 30 27 token) 4) 27) [] (unless (leb (bits 4 0 token) 13) 0),
-      )
+  usage_forms type found form e u =
+      rw (form_by_lem v type (span 26 0) (span 30 0) (span 15 5 ++ span 30 20) found e, form_by_lem v type (unless sampled 27) [] (unless used 0) found e, ← u)
+      (this form)
+    where
+      this : (f : Form) → by_form f (fault_by token (offends_in 0x7FFFFFF (set_of (unless sampled 27)) token) true true)
+          (fault_by token (offends_in 0x7FFFFFFF 0 token) true true)
+          (fault_by token (offends_in 0x7FF0FFE0 (set_of (unless used 0)) token) true true) ≡
+          fault_by token (offends (by_form f (span 26 0) (span 30 0) (span 15 5 ++ span 30 20)) (by_form f (unless sampled 27) [] (unless used 0)) token) true true
+      this Sampler = fault_sets (span 26 0) (unless sampled 27) token true true sampler_agrees (texture_agrees sampled)
+      this Plain = fault_sets (span 30 0) [] token true true plain_agrees none_agrees
+      this Usage = fault_sets (span 15 5 ++ span 30 20) (unless used 0) token true true usage_agrees (used_agrees used)

@@ -1,10 +1,10 @@
-// What is wrong with the layout of a token, and the lowest offending bit: document 02, Q-3. It is asked only where a layout is not as document 01
+// What is wrong with the layout of a token, if anything is, and the lowest offending bit: document 02, Q-3. It is asked only where a layout is not as document 01
 // says, so that nothing here is on the way of a lawful stream.
 #![tactic(auto)]
 
 ghost use Rattle.std.specs.Prelude.{◌≡◌, ◌||◌, ◌&&◌, true, false, [], eqb, leb, ◌≤◌};
 ghost use Rattle.paper.specs.Notation.{bit, bits, pick};
-ghost use Rattle.paper.specs.Numbers.{told_token};
+ghost use Rattle.paper.specs.Judgements.{as_token};
 ghost use Rattle.paper.specs.Faults.{span, unless, offends, lowest, fault_by};
 ghost use Rattle.paper.specs.OperandTokens.{type_of, modifier_of, negated, written_zeros, fault_at};
 ghost use Rattle.paper.specs.Dcl.{is_miscellaneous, is_face, declared_zeros, declared_fields, declared_fault, usage_fault};
@@ -12,10 +12,8 @@ ghost use Rattle.places.specs.Places.{place_by};
 ghost use Rattle.versions.specs.Sets.{set_of};
 ghost use Rattle.faults.specs.BySets.{offends_in};
 
-use paper::Version;
-
-// A bit stands above the number of its fault.
-const NUMBERS: u32 = 32;
+use paper::{Fault, Reason, Version};
+use versions::Form;
 
 // The bits that tell of bit 31, of a modifier and of relative addressing.
 const LAST_BIT: u32 = 31;
@@ -24,17 +22,14 @@ const MODIFIER_BIT: u32 = 24;
 
 const RELATIVE_BIT: u32 = 13;
 
-// The bits that every operand token has zero, 15:14.
+// Bits that must be zero: of every operand token 15:14, of a destination 23 too, 22:21 in a vertex version, and 27:24 where there is no shift scale.
 const COMMON: u32 = 0xC000;
 
-// What a destination has zero: in pixel versions with and without a shift scale, in vertex versions.
-const SCALED: u32 = 0x80_C000;
+const WRITTEN: u32 = 0x80_C000;
 
-const PIXEL: u32 = 0xF80_C000;
+const PIXEL_ALONE: u32 = 0x60_0000;
 
-const VERTEX: u32 = 0xFE0_C000;
-
-const SCALED_VERTEX: u32 = 0xE0_C000;
+const SHIFT_SCALE: u32 = 0xF00_0000;
 
 // What a face has zero in the one version that has it.
 const FACE: u32 = 0xFF0_C000;
@@ -58,55 +53,63 @@ fn lowest_offending(zeros: u32, fields: u32, token: u32) -> u32
     ensures is { result ≡ lowest (offends_in zeros fields token) }
     ensures few { result ≤ 31 }
 {
-    let mut bit = 0;
-    while bit < LAST_BIT {
-        if (((zeros >> bit) % 2 == 1) & ((token >> bit) % 2 == 1)) | ((fields >> bit) % 2 == 1) {
-            return bit;
-        }
-        bit += 1;
-    }
-    bit
+    ((zeros & token) | fields | (1 << LAST_BIT)).trailing_zeros()
 }
 
 // What is told of a token: bit 31 first, then the reserved bits, then relative addressing, then the modifier.
-fn fault_by(zeros: u32, fields: u32, token: u32, relative_laid: bool, modifier_laid: bool) -> u32
-    ensures { result ≡ told_token (fault_by token (offends_in zeros fields token) relative_laid modifier_laid) }
+fn fault_by(
+    zeros: u32,
+    fields: u32,
+    token: u32,
+    relative_laid: bool,
+    modifier_laid: bool,
+) -> Option<Fault>
+    ensures { as_token result ≡ fault_by token (offends_in zeros fields token) relative_laid modifier_laid }
 {
     if token / 0x8000_0000 % 2 == 0 {
-        return paper::RESERVED + NUMBERS * LAST_BIT;
+        return Some(Fault {
+            reason: Reason::Reserved,
+            bit: LAST_BIT,
+        });
     }
     let lowest = lowest_offending(zeros, fields, token);
     if lowest < LAST_BIT {
-        return paper::RESERVED + NUMBERS * lowest;
+        return Some(Fault {
+            reason: Reason::Reserved,
+            bit: lowest,
+        });
     }
-    if relative_laid {
-        if modifier_laid {
-            return 0;
-        }
-        return paper::MODIFIER + NUMBERS * MODIFIER_BIT;
+    if !relative_laid {
+        return Some(Fault {
+            reason: Reason::Relative,
+            bit: RELATIVE_BIT,
+        });
     }
-    paper::RELATIVE + NUMBERS * RELATIVE_BIT
+    if !modifier_laid {
+        return Some(Fault {
+            reason: Reason::Modifier,
+            bit: MODIFIER_BIT,
+        });
+    }
+    None
 }
 
 // The bits of a destination that must be zero.
 fn written_zeros(version: Version) -> u32
     ensures { result ≡ set_of (written_zeros version) }
 {
-    let scaled = versions::has_shift_scale(version);
-    if versions::is_pixel(version) {
-        if scaled {
-            return SCALED;
-        }
-        return PIXEL;
+    let mut zeros = WRITTEN;
+    if !versions::is_pixel(version) {
+        zeros += PIXEL_ALONE;
     }
-    if scaled {
-        return SCALED_VERTEX;
+    if !versions::has_shift_scale(version) {
+        zeros += SHIFT_SCALE;
     }
-    VERTEX
+    zeros
 }
 
-fn written_fault(version: Version, token: u32, may_be_relative: bool) -> u32
-    ensures { result ≡ told_token (fault_by token (offends (written_zeros version) [] token) (eqb (bit 13 token) 0 || may_be_relative) true) }
+fn written_fault(version: Version, token: u32, may_be_relative: bool) -> Option<Fault>
+    ensures { as_token result ≡ fault_by token (offends (written_zeros version) [] token) (eqb (bit 13 token) 0 || may_be_relative) true }
 {
     let zeros = written_zeros(version);
     fault_by(
@@ -118,8 +121,8 @@ fn written_fault(version: Version, token: u32, may_be_relative: bool) -> u32
     )
 }
 
-fn read_fault(token: u32, may_be_relative: bool, modifier_laid: bool) -> u32
-    ensures { result ≡ told_token (fault_by token (offends (span 15 14) [] token) (eqb (bit 13 token) 0 || may_be_relative) modifier_laid) }
+fn read_fault(token: u32, may_be_relative: bool, modifier_laid: bool) -> Option<Fault>
+    ensures { as_token result ≡ fault_by token (offends (span 15 14) [] token) (eqb (bit 13 token) 0 || may_be_relative) modifier_laid }
 {
     fault_by(
         COMMON,
@@ -138,12 +141,12 @@ fn predicate_modifier(token: u32) -> bool
     (modifier == 0) | ((modifier == NEGATED) & (versions::type_of(token) == PREDICATE_REGISTER))
 }
 
-// What is wrong with a token at its place: 0 if nothing is, and at a place that is kept as it stands.
-pub fn fault_at(version: Version, place: u64, token: u32) -> u32
-    ensures { result ≡ told_token (fault_at version (place_by place) token) }
+// What is wrong with a token at its place; nothing at a place that is kept as it stands.
+pub fn fault_at(version: Version, place: u64, token: u32) -> Option<Fault>
+    ensures { as_token result ≡ fault_at version (place_by place) token }
 {
     if places::is_raw(place) {
-        return 0;
+        return None;
     }
     if places::is_destination(place) {
         let relative = versions::relative_destinations(version);
@@ -210,9 +213,10 @@ fn declared_fields(version: Version, token: u32) -> u32
     0
 }
 
-// What is wrong with a DCL's destination: 0 if nothing is.
-fn declared_fault(version: Version, token: u32) -> u32
-    ensures { result ≡ told_token (declared_fault version token) }
+// What is wrong with a DCL's destination. Never in the judge's own code, as what follows: it would lengthen the way of a lawful DCL.
+#[inline(never)]
+pub fn declared_fault(version: Version, token: u32) -> Option<Fault>
+    ensures { as_token result ≡ declared_fault version token }
 {
     let zeros = declared_zeros(version, token);
     let fields = declared_fields(version, token);
@@ -239,26 +243,14 @@ fn usage_field(usage: u32) -> u32
     1 << 0
 }
 
-// What is wrong with U, whose form goes with the destination's type: 0 if nothing is.
-fn usage_fault(version: Version, destination: u32, usage: u32) -> u32
-    ensures { result ≡ told_token (usage_fault version (type_of destination) usage) }
+// What is wrong with U, whose form goes with the destination's type.
+#[inline(never)]
+pub fn usage_fault(version: Version, destination: u32, usage: u32) -> Option<Fault>
+    ensures { as_token result ≡ usage_fault version (type_of destination) usage }
 {
-    let form = versions::form_of(version, destination);
-    if form == versions::SAMPLER_FORM {
-        return fault_by(SAMPLER, texture_field(usage), usage, true, true);
+    match versions::form_of(version, destination).unwrap_or(Form::Usage) {
+        Form::Sampler => fault_by(SAMPLER, texture_field(usage), usage, true, true),
+        Form::Plain => fault_by(PLAIN, 0, usage, true, true),
+        Form::Usage => fault_by(USAGE, usage_field(usage), usage, true, true),
     }
-    if form == versions::PLAIN_FORM {
-        return fault_by(PLAIN, 0, usage, true, true);
-    }
-    fault_by(USAGE, usage_field(usage), usage, true, true)
-}
-
-// What is wrong with a token of a DCL, U or the destination. One function for both: with two callers it stays out of the judge's own code.
-pub fn declaration_fault(version: Version, destination: u32, usage: u32, in_usage: bool) -> u32
-    ensures { result ≡ told_token (pick in_usage (usage_fault version (type_of destination) usage) (declared_fault version destination)) }
-{
-    if in_usage {
-        return usage_fault(version, destination, usage);
-    }
-    declared_fault(version, destination)
 }

@@ -1,5 +1,5 @@
 -- Where the search ends: it runs out of tokens, at an instruction that is refused, or at a good one, of which it tells.
-use Rattle.std.specs.Prelude.{Option, Some, None}
+use Rattle.std.specs.Prelude.{Option, Some, None, Ok, Err}
 use mathlib.Core.Path.{◌≡◌, refl}
 use mathlib.Core.Bool.{Bool, true, false}
 use mathlib.Core.List.{List}
@@ -21,10 +21,8 @@ use Rattle.paper.specs.declared.Reason.TheVariants.{Length as LENGTH, Version as
 use Rattle.blocks.proofs.Cutting.{cut_none, cut_at, start_at}
 use Rattle.notes.specs.declared.Before.{Before}
 use Rattle.notes.specs.declared.Before.TheVariants.{Nothing, Comments, Stop, Further, SecondStop}
-use Rattle.notes.specs.declared.Noted.{Noted}
-use Rattle.notes.specs.declared.Noted.TheVariants.{Found, Refused}
 use Rattle.notes.specs.NotedShapes.{notes_of, behind_of}
-use Rattle.notes.specs.Noted.{begin, note, ends, noted_in, noted_from, on_version, noted}
+use Rattle.notes.specs.Noted.{begin, note, ends, noted_in, noted_from, on_version, noted, Noted}
 
 -- comments begin before what they stand before
 begin_before : (before : Before) (comments at : ℕ) → comments ≤ at → begin before comments at ≤ at
@@ -39,15 +37,15 @@ module _
     (s : List ℕ)
     (from : ℕ)
     (P : Noted → Type 0)
-    (runs_out : P (Refused (refusal RUN_OUT (length s))))
-    (is_refused_lem : (p : ℕ) (r : Refusal) → p < length s → judged v (drop p s) ≡ bad_instruction r → P (Refused (moved_by (λ q. p + q) r)))
+    (runs_out : P (Err (refusal RUN_OUT (length s))))
+    (is_refused_lem : (p : ℕ) (r : Refusal) → p < length s → judged v (drop p s) ≡ bad_instruction r → P (Err (moved_by (λ q. p + q) r)))
     (is_found : (p size notes comments : ℕ) (class : Class) → from ≤ p → comments ≤ p → p < length s → judged v (drop p s) ≡ good_instruction size class →
-    P (Found (note notes p comments (p + suc size))))
+    P (Ok (note notes p comments (p + suc size))))
   where
     module _ (at : ℕ) (ahead : from ≤ at) (some : at < length s) (before : Before) (comments : ℕ) (behind : comments ≤ at) where
       good : (size : ℕ) (class : Class) → judged v (drop at s) ≡ good_instruction size class →
           (test : Bool) → P (noted_in v s (cut_from v s (at + suc size)) (behind_of (get_or s at 0) before) (begin before comments at)) →
-          P (pick test (Found (note (notes_of v (get_or s at 0) (get_or s (at + 1) 0) before) at (begin before comments at) (at + suc size)))
+          P (pick test (Ok (note (notes_of v (get_or s at 0) (get_or s (at + 1) 0) before) at (begin before comments at) (at + suc size)))
           (noted_in v s (cut_from v s (at + suc size)) (behind_of (get_or s at 0) before) (begin before comments at)))
       good size class j true later =
           is_found at size (notes_of v (get_or s at 0) (get_or s (at + 1) 0) before) (begin before comments at) class ahead (begin_before before comments at behind) some j
@@ -83,13 +81,13 @@ module _
     search_ends = from_place (length s) from (omega arith) (omega arith) Nothing from (omega arith)
 
 -- and before the search LENGTH and VERSION: what holds of these and of each version's search holds of every answer
-module _ (tokens : List ℕ) (from : ℕ) (P : Noted → Type 0) (too_long : P (Refused (refusal LENGTH 0))) (unknown : P (Refused (refusal VERSION 0)))
+module _ (tokens : List ℕ) (from : ℕ) (P : Noted → Type 0) (too_long : P (Err (refusal LENGTH 0))) (unknown : P (Err (refusal VERSION 0)))
     (searched : (v : Version) → P (noted_from v tokens from)) where
   by_version : (name : Option Version) → P (on_version name tokens from)
   by_version (Some v) = searched v
   by_version None = unknown
 
-  by_length : (name : Option Version) (few : Bool) → P (pick few (on_version name tokens from) (Refused (refusal LENGTH 0)))
+  by_length : (name : Option Version) (few : Bool) → P (pick few (on_version name tokens from) (Err (refusal LENGTH 0)))
   by_length name true = by_version name
   by_length name false = too_long
 

@@ -11,7 +11,7 @@ use lib.Seq.{drop-cons, drop-drop}
 use Rattle.paper.proofs.Bools.{apart}
 use Rattle.paper.specs.Notation.{bit, pick}
 use Rattle.paper.specs.Numbers.{refusal, told_token}
-use Rattle.paper.specs.OperandTokens.{is_free, token_at, brings_relative}
+use Rattle.paper.specs.OperandTokens.{token_at, brings_relative}
 use Rattle.paper.specs.Instruction.{on_token, relative_token, operand, on_taken, operands}
 use Rattle.paper.specs.declared.Version.{Version}
 use Rattle.paper.specs.declared.Reason.TheVariants.{Size as SIZE}
@@ -20,6 +20,8 @@ use Rattle.paper.specs.Judgements.{Token, good_token, bad_token, Taken, operand_
 use Rattle.paper.specs.Places.{Place, relative}
 use Rattle.places.specs.Places.{place_by, places_in, decoded}
 use Rattle.told.specs.Numbered.{fault_number, took_number, taken_number}
+use Rattle.std.specs.Prelude.{Result, is_ok}
+use Rattle.tokens.specs.declared.Wrong.{Wrong}
 use Rattle.tokens.specs.Brief.{brief}
 use Rattle.tokens.proofs.TokenAt.{brief_good}
 use Rattle.operands.proofs.Numbers.{on_token_number, taken_pick}
@@ -46,34 +48,25 @@ unfolding operand
 operand_at v place offset at behind h = rw (drop-cons behind at 0 h, add-one at)
 
 -- what is told of an operand, by what is told of its token
-pub relative_number : (v : Version) (offset at told : ℕ) (behind : List ℕ) → at < length behind →
+pub relative_number : (v : Version) (offset at : ℕ) (told : Result (Unit {0}) Wrong) (behind : List ℕ) → at < length behind →
     told ≡ brief v relative (get_or behind at 0) →
-    taken_number (relative_token v offset (drop at behind)) ≡ pick (eqb told 0) (took_number 2) (fault_number (told_token (token_at v relative (get_or behind at 0))) offset)
+    taken_number (relative_token v offset (drop at behind)) ≡ pick (is_ok told) (took_number 2) (fault_number (told_token (token_at v relative (get_or behind at 0))) offset)
 relative_number v offset at told behind h e =
     rw (relative_at v offset at behind h, e)
-    (on_token_number (token_at v relative (get_or behind at 0)) (eqb (brief v relative (get_or behind at 0)) 0) offset (operand_taken 2) (brief_good v relative (get_or behind at 0)))
+    (on_token_number (token_at v relative (get_or behind at 0)) (is_ok (brief v relative (get_or behind at 0))) offset (operand_taken 2) (brief_good v relative (get_or behind at 0)))
 
-module _ (v : Version) (place : Place) (offset at told : ℕ) (behind : List ℕ) (h : at < length behind) where
+module _ (v : Version) (place : Place) (offset at : ℕ) (told : Result (Unit {0}) Wrong) (behind : List ℕ) (h : at < length behind) where
   abbrev token : ℕ
   token = get_or behind at 0
 
   abbrev brought : Taken
   brought = relative_token v (offset + 1) (drop (at + 1) behind)
 
-  module _ (e : told ≡ brief v place token) where
-    operand_number : taken_number (operand v place offset (drop at behind)) ≡
-        pick (eqb told 0) (pick (brings_relative place token) (taken_number brought) (took_number 1)) (fault_number (told_token (token_at v place token)) offset)
-    operand_number =
-        rw (operand_at v place offset at behind h, ← (taken_pick (brings_relative place token) brought (operand_taken 1)), e)
-        (on_token_number (token_at v place token) (eqb (brief v place token) 0) offset (pick (brings_relative place token) brought (operand_taken 1)) (brief_good v place token))
-
-    pub free_number : is_free place ≡ true → taken_number (operand v place offset (drop at behind)) ≡
-        pick (eqb told 0) (pick (eqb (bit 13 token) 1) (taken_number brought) (took_number 1)) (fault_number (told_token (token_at v place token)) offset)
-    free_number free = rw free at operand_number
-
-    pub typed_number : is_free place ≡ false →
-        taken_number (operand v place offset (drop at behind)) ≡ pick (eqb told 0) (took_number 1) (fault_number (told_token (token_at v place token)) offset)
-    typed_number not-Free = rw not-Free at operand_number
+  pub operand_number : told ≡ brief v place token → taken_number (operand v place offset (drop at behind)) ≡
+      pick (is_ok told) (pick (brings_relative place token) (taken_number brought) (took_number 1)) (fault_number (told_token (token_at v place token)) offset)
+  operand_number e =
+      rw (operand_at v place offset at behind h, ← (taken_pick (brings_relative place token) brought (operand_taken 1)), e)
+      (on_token_number (token_at v place token) (is_ok (brief v place token)) offset (pick (brings_relative place token) brought (operand_taken 1)) (brief_good v place token))
 
 -- an operand takes tokens that are there
 module _ (v : Version) (place : Place) (offset n : ℕ) where

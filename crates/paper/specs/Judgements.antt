@@ -1,7 +1,8 @@
 -- What is said of a token at its place, of an operand, of the operands of an instruction, of an instruction and of a stream. A refusal of an
 -- instruction's tokens counts its position from the instruction.
-use Rattle.std.specs.Prelude.{ℕ, Result, Ok, Err}
+use Rattle.std.specs.Prelude.{ℕ, Option, Some, None, Result, Ok, Err}
 use Rattle.paper.specs.declared.Reason.{Reason}
+use Rattle.paper.specs.declared.Fault.{Fault}
 use Rattle.paper.specs.declared.Refusal.{Refusal}
 use Rattle.paper.specs.declared.Class.{Class}
 use Rattle.paper.specs.declared.Instruction.{Instruction}
@@ -10,6 +11,11 @@ use Rattle.paper.specs.declared.Instruction.{Instruction}
 pub data Token : Type 0 where
   good_token : Token
   bad_token : Reason → ℕ → Token
+
+-- the same, as code gives back what is wrong with it
+abbrev pub as_token : Option Fault → Token
+as_token None = good_token
+as_token (Some f) = bad_token f.reason f.bit
 
 -- one operand: how many tokens it takes
 pub data Taken : Type 0 where

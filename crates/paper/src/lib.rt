@@ -53,21 +53,26 @@ pub enum Reason {
     Relative = 18,
 }
 
-// The numbers of the faults that are told of operands.
-pub const SIZE: u32 = Reason::Size as u32;
-
-pub const REGISTER: u32 = Reason::Register as u32;
-
-pub const RESERVED: u32 = Reason::Reserved as u32;
-
-pub const MODIFIER: u32 = Reason::Modifier as u32;
-
-pub const RELATIVE: u32 = Reason::Relative as u32;
-
 pub fn number_of(reason: Reason) -> u32
     ensures { result ≡ number_of reason }
 {
     reason as u32
+}
+
+// What is wrong with a token: why, and the lowest offending bit of its layout; 0 where the number says all.
+#[derive(Clone, Copy)]
+pub struct Fault {
+    pub reason: Reason,
+    pub bit: u32,
+}
+
+impl Fault {
+    // A fault of which the number says all.
+    pub fn of(reason: Reason) -> Fault
+        ensures { result ≡ record { reason = reason; bit = 0 } }
+    {
+        Fault { reason, bit: 0 }
+    }
 }
 
 // A refusal: why, the position of a token, and what the number says besides, of an operand's layout the lowest offending bit; else 0.

@@ -1,5 +1,6 @@
 -- The reader's answer is one: what it tells of a version, tokens and a place leaves no other. A record is that of its instruction's own tokens.
-use mathlib.Core.Path.{◌≡◌, sym, ap}
+use Rattle.std.specs.Prelude.{Ok, Err}
+use mathlib.Core.Path.{◌≡◌, sym, ap, ◌∙◌}
 use mathlib.Core.List.{List}
 use Prim.Native.Nat.{ℕ, suc, ◌+◌, ◌<◌}
 use lib.ListN.{length, take, drop}
@@ -12,32 +13,24 @@ use Rattle.paper.specs.Judgements.{good_instruction}
 use Rattle.records.specs.declared.Record.{Record}
 use Rattle.records.specs.Record.{record_of}
 use Rattle.records.proofs.OwnRecord.{record_own}
-use Rattle.reader.specs.declared.Answer.{Answer}
-use Rattle.reader.specs.declared.Answer.TheVariants.{Got, Refused}
-use Rattle.reader.specs.declared.Reading.{Reading}
-use Rattle.reader.specs.Reading.{got, reading_at, reading, ToldReading, told_answer, told_reading}
-
-told_answer_lem : (a b : Answer) (i j : Record) → told_answer a i ≡ told_answer b j → (a ≡ b) × (i ≡ j)
-told_answer_lem (Got m) (Got n) i j e = (ap Got (ap (λ t. t.next) e), ap (λ t. t.instruction) e)
-told_answer_lem (Got m) (Refused s) i j e = absurd (no_reason_zero s.reason (ap (λ (t : ToldReading). t.number) e))
-told_answer_lem (Refused r) (Got n) i j e = absurd (no_reason_zero r.reason (sym (ap (λ (t : ToldReading). t.number) e)))
-told_answer_lem (Refused r) (Refused s) i j e =
-    (ap Refused (same_refusal r s (ap (λ t. t.number) e) (ap (λ t. t.position) e) (ap (λ t. t.detail) e)), ap (λ t. t.instruction) e)
-
-unfoldable reading_of : Answer → Record → Reading
-reading_of answer instruction = record { answer = answer; instruction = instruction }
-
-reading_same : {a b : Answer} {i j : Record} → a ≡ b → i ≡ j → reading_of a i ≡ reading_of b j
-reading_same p q = cc
+use Rattle.reader.specs.Reading.{Answer, got, reading_at, reading, ToldReading, told_reading}
 
 -- what a reading tells is that reading's alone
-pub told_one : (r s : Reading) → told_reading r ≡ told_reading s → r ≡ s
-unfolding reading_of told_reading
-told_one r s e =
-    let both = told_answer_lem r.answer s.answer r.instruction s.instruction e in
-    reading_same both.0 both.1
+pub told_one : (a b : Answer) → told_reading a ≡ told_reading b → a ≡ b
+unfolding told_reading
+told_one (Ok r) (Ok s) e =
+    ap (λ next. got next r.instruction) (ap (λ (t : ToldReading). t.next) e) ∙ ap (got s.next) (ap (λ (t : ToldReading). t.instruction) e)
+told_one (Ok r) (Err s) e = absurd (no_reason_zero s.reason (ap (λ (t : ToldReading). t.number) e))
+told_one (Err r) (Ok s) e = absurd (no_reason_zero r.reason (sym (ap (λ (t : ToldReading). t.number) e)))
+told_one (Err r) (Err s) e =
+    ap Err (same_refusal r s (ap (λ (t : ToldReading). t.number) e) (ap (λ (t : ToldReading). t.position) e) (ap (λ (t : ToldReading). t.detail) e))
 
-pub reading_unique : (version : ℕ) (tokens : List ℕ) (at : ℕ) (r : Reading) → told_reading r ≡ told_reading (reading version tokens at) → r ≡ reading version tokens at
+-- the next place and the record of a yes
+pub same_got : {m n : ℕ} {i j : Record} → got m i ≡ got n j → (m ≡ n) × (i ≡ j)
+unfolding told_reading
+same_got e = let told = ap told_reading e in (ap (λ (t : ToldReading). t.next) told, ap (λ (t : ToldReading). t.instruction) told)
+
+pub reading_unique : (version : ℕ) (tokens : List ℕ) (at : ℕ) (r : Answer) → told_reading r ≡ told_reading (reading version tokens at) → r ≡ reading version tokens at
 reading_unique version tokens at r e = told_one r (reading version tokens at) e
 
 -- "one instruction has one record"

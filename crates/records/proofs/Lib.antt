@@ -1,5 +1,6 @@
 -- What the proofs of the functions share, and the laws of records.
 pub mod PlaceKinds
+pub mod Unused
 pub mod Filled
 pub mod Passed
 pub mod Declared

@@ -1,11 +1,13 @@
 -- The row of an instruction, read from its shape: the places but for the predicate's, and where the predicate stands.
 use Prim.Native.Nat.{ℕ, ◌+◌, ◌*◌, ◌/◌, ◌%◌, ◌^◌, ◌<◌, ◌≤◌}
 use mathlib.Core.Path.{◌≡◌, refl, ◌∙◌}
-use mathlib.Core.Bool.{Bool, true, false}
+use mathlib.Core.Bool.{Bool, true, false, ◌&&◌}
 use mathlib.Core.List.{List, [], ◌∷◌, ◌++◌}
 use native.Mathlib.Omega.{arith}
+use lib.Dec.{eqb}
 use lib.ListN.{length, drop}
-use Rattle.paper.specs.Notation.{pick}
+use borrow.Author.Tests.{eqb-true, eqb-false}
+use Rattle.paper.proofs.Bools.{both_left, both_right}
 use Rattle.paper.specs.InstructionToken.{opcode_of, is_predicated, with_predicate}
 use Rattle.paper.specs.Places.{absent, listed, Entry, entry_of, Place, predicate}
 use Rattle.paper.specs.declared.Version.{Version}
@@ -48,21 +50,25 @@ module _ (v : Version) (first : ℕ) where
           rw (shape_places v (opcode_of first) places e, decoded_digits v (opcode_of first) places e)
           (unpredicated_in_order places (row_unpredicated v (opcode_of first) places e))
 
-  pub row_is : (row ≡ 0 → ⊥) → row_of v first ≡ with_predicate (is_predicated first) (decoded row)
-  unfolding places_by
-  row_is some = by (is_predicated first) refl
-    where
-      by : (predicated : Bool) → is_predicated first ≡ predicated → row_of v first ≡ with_predicate (is_predicated first) (decoded row)
-      by true p = rw (p, predicated_decoded row row_small some) refl
-      by false p = rw (p, without_predicate (decoded row)) refl
+  -- an instruction that is predicated has operands
+  abbrev bare : Bool
+  bare = is_predicated first && eqb row 0
 
-  pub row_readable : {behind : List ℕ} → (row ≡ 0 → ⊥) → Readable (row_of v first) behind → ReadableRow (is_predicated first) (decoded row) behind
+  pub row_is : bare ≡ false → row_of v first ≡ with_predicate (is_predicated first) (decoded row)
+  unfolding places_by
+  row_is some = by (is_predicated first) refl some
+    where
+      by : (predicated : Bool) → is_predicated first ≡ predicated → (predicated && eqb row 0) ≡ false → row_of v first ≡ with_predicate (is_predicated first) (decoded row)
+      by true p s = rw (p, predicated_decoded row row_small (eqb-false row 0 s)) refl
+      by false p s = rw (p, without_predicate (decoded row)) refl
+
+  pub row_readable : {behind : List ℕ} → bare ≡ false → Readable (row_of v first) behind → ReadableRow (is_predicated first) (decoded row) behind
   row_readable some r = record { there = rw (row_is some) at r.there; all_ordered = row_ordered }
 
-  -- an opcode with no operands
-  pub bare_row : row ≡ 0 → row_of v first ≡ decoded (pick (is_predicated first) (predicated_row 0) 0)
+  -- one that is predicated and has none
+  pub bare_row : bare ≡ true → row_of v first ≡ decoded (predicated_row 0)
   unfolding places_by
-  bare_row none = rw none refl
+  bare_row b = rw (both_left (is_predicated first) (eqb row 0) b, eqb-true row 0 (both_right (is_predicated first) (eqb row 0) b)) refl
 
 -- what a predicated instruction without operands would have
 abbrev pub unplaced : List Place

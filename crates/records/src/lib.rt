@@ -3,7 +3,7 @@
 
 ghost use Rattle.std.specs.Prelude.{◌≡◌, ◌+◌, ◌≤◌, length, drop};
 ghost use Rattle.paper.specs.Notation.{pick};
-ghost use Rattle.paper.specs.InstructionToken.{is_predicated, with_predicate};
+ghost use Rattle.paper.specs.InstructionToken.{with_predicate};
 ghost use Rattle.paper.specs.Places.{predicate};
 ghost use Rattle.places.specs.Places.{place_by, decoded, predicated_row};
 ghost use Rattle.records.specs.Record.{no_operand, raw_operand, destination_operand, source_operand, operand_of, width_at, operand_at, array_of, empty_record, no_record, instruction_record};
@@ -16,9 +16,9 @@ pub const OPERANDS: usize = 6;
 
 pub const PREDICATE_SLOT: usize = 5;
 
-// An operand: the fields of its token and of its relative token, or the 32 bits of a raw one.
+// An operand: the fields of its token and of its relative token, or the 32 bits of a raw one. That of an unused place is all zero.
 #[repr(C)]
-#[derive(Clone, Copy)]
+#[derive(Clone, Copy, PartialEq, Eq, Default)]
 pub struct Operand {
     pub number: u32,
     pub kind: u32,
@@ -51,18 +51,8 @@ pub fn raw_operand(token: u32) -> Operand
     ensures { result ≡ raw_operand token }
 {
     Operand {
-        number: 0,
-        kind: 0,
-        mask: 0,
-        swizzle: 0,
-        modifier: 0,
-        result: 0,
-        shift: 0,
-        relative: 0,
-        relative_number: 0,
-        relative_kind: 0,
-        relative_swizzle: 0,
         raw: token,
+        ..Operand::default()
     }
 }
 
@@ -73,15 +63,13 @@ fn destination_operand(token: u32, relative: u32) -> Operand
         number: token % 0x800,
         kind: token / 0x1000_0000 % 8 + 8 * (token / 0x800 % 4),
         mask: token / 0x1_0000 % 16,
-        swizzle: 0,
-        modifier: 0,
         result: token / 0x10_0000 % 8,
         shift: token / 0x100_0000 % 16,
         relative: token / 0x2000 % 2,
         relative_number: relative % 0x800,
         relative_kind: relative / 0x1000_0000 % 8 + 8 * (relative / 0x800 % 4),
         relative_swizzle: relative / 0x1_0000 % 0x100,
-        raw: 0,
+        ..Operand::default()
     }
 }
 
@@ -91,16 +79,13 @@ fn source_operand(token: u32, relative: u32) -> Operand
     Operand {
         number: token % 0x800,
         kind: token / 0x1000_0000 % 8 + 8 * (token / 0x800 % 4),
-        mask: 0,
         swizzle: token / 0x1_0000 % 0x100,
         modifier: token / 0x100_0000 % 16,
-        result: 0,
-        shift: 0,
         relative: token / 0x2000 % 2,
         relative_number: relative % 0x800,
         relative_kind: relative / 0x1000_0000 % 8 + 8 * (relative / 0x800 % 4),
         relative_swizzle: relative / 0x1_0000 % 0x100,
-        raw: 0,
+        ..Operand::default()
     }
 }
 
@@ -117,26 +102,6 @@ fn operand_of(place: u64, token: u32, relative: u32) -> Operand
     source_operand(token, relative)
 }
 
-// An unused place: all zero.
-fn no_operand() -> Operand
-    ensures { result ≡ no_operand }
-{
-    Operand {
-        number: 0,
-        kind: 0,
-        mask: 0,
-        swizzle: 0,
-        modifier: 0,
-        result: 0,
-        shift: 0,
-        relative: 0,
-        relative_number: 0,
-        relative_kind: 0,
-        relative_swizzle: 0,
-        raw: 0,
-    }
-}
-
 // An operand, and the place of the token behind it.
 #[derive(Clone, Copy)]
 struct Step {
@@ -144,37 +109,20 @@ struct Step {
     next: usize,
 }
 
-// The operand whose token is the one at `at` of those behind the instruction token. Most have no relative token: what kind of place it is
-// says which fields are stored.
+// The operand whose token is the one at `at` of those behind the instruction token.
 fn read_operand(place: u64, behind: &[u32], at: usize) -> Step
     requires { at + width_at (place_by place) (drop at behind.now) ≤ length behind.now }
     ensures { (result.operand ≡ operand_at (place_by place) (drop at behind.now)) × (result.next ≡ at + width_at (place_by place) (drop at behind.now)) }
 {
     let token = behind[at];
     if tokens::brings_relative(place, token) {
-        let operand = operand_of(place, token, behind[at + 1]);
         return Step {
-            operand,
+            operand: operand_of(place, token, behind[at + 1]),
             next: at + 2,
         };
     }
-    if places::is_raw(place) {
-        let operand = raw_operand(token);
-        return Step {
-            operand,
-            next: at + 1,
-        };
-    }
-    if places::is_destination(place) {
-        let operand = destination_operand(token, 0);
-        return Step {
-            operand,
-            next: at + 1,
-        };
-    }
-    let operand = source_operand(token, 0);
     Step {
-        operand,
+        operand: operand_of(place, token, 0),
         next: at + 1,
     }
 }
@@ -187,8 +135,10 @@ fn read_predicate(predicated: bool, behind: &[u32], at: usize) -> Step
     if predicated {
         return read_operand(places::PREDICATE, behind, at);
     }
-    let operand = no_operand();
-    Step { operand, next: at }
+    Step {
+        operand: Operand::default(),
+        next: at,
+    }
 }
 
 // The operands of a row of places, read from the tokens behind the instruction token; the predicate's token stands behind the first operand.
@@ -197,75 +147,70 @@ fn read_operands(row: u64, predicated: bool, behind: &[u32]) -> [Operand; OPERAN
     requires { ReadableRow predicated (decoded row) behind.now }
     ensures { result ≡ array_of (with_predicate predicated (decoded row)) behind.now }
 {
-    let none = no_operand();
+    let none = Operand::default();
     if row == 0 {
         return [none; OPERANDS];
     }
     let first = read_operand(row % places::BASE, behind, 0);
     let predicate = read_predicate(predicated, behind, first.next);
+    let a = first.operand;
+    let p = predicate.operand;
     let left = row / places::BASE;
     if left == 0 {
-        let a = first.operand;
-        let p = predicate.operand;
         return [a, none, none, none, none, p];
     }
     let second = read_operand(left % places::BASE, behind, predicate.next);
+    let b = second.operand;
     let left = left / places::BASE;
     if left == 0 {
-        let a = first.operand;
-        let b = second.operand;
-        let p = predicate.operand;
         return [a, b, none, none, none, p];
     }
     let third = read_operand(left % places::BASE, behind, second.next);
+    let c = third.operand;
     let left = left / places::BASE;
     if left == 0 {
-        let a = first.operand;
-        let b = second.operand;
-        let c = third.operand;
-        let p = predicate.operand;
         return [a, b, c, none, none, p];
     }
     let fourth = read_operand(left % places::BASE, behind, third.next);
+    let d = fourth.operand;
     let left = left / places::BASE;
     if left == 0 {
-        let a = first.operand;
-        let b = second.operand;
-        let c = third.operand;
-        let d = fourth.operand;
-        let p = predicate.operand;
         return [a, b, c, d, none, p];
     }
     let fifth = read_operand(left % places::BASE, behind, fourth.next);
-    let a = first.operand;
-    let b = second.operand;
-    let c = third.operand;
-    let d = fourth.operand;
-    let e = fifth.operand;
-    let p = predicate.operand;
-    [a, b, c, d, e, p]
+    [a, b, c, d, fifth.operand, p]
+}
+
+// The operands of a predicated instruction whose opcode has none: the predicate behind an operand of place 0, as the places of its shape
+// say. No lawful instruction is so.
+fn unplaced_operands(behind: &[u32]) -> [Operand; OPERANDS]
+    requires { Readable (decoded (predicated_row 0)) behind.now }
+    ensures { result ≡ array_of (decoded (predicated_row 0)) behind.now }
+{
+    let none = Operand::default();
+    let unplaced = read_operand(0, behind, 0);
+    let predicate = read_operand(places::PREDICATE, behind, unplaced.next);
+    let u = unplaced.operand;
+    [u, none, none, none, none, predicate.operand]
 }
 
 fn empty_record(opcode: u32, extent: u32) -> Record
     ensures { result ≡ empty_record opcode extent }
 {
-    let none = no_operand();
-    let operands = [none; OPERANDS];
     Record {
         opcode,
         controls: 0,
         predicated: 0,
         coissue: 0,
         extent,
-        operands,
+        operands: [Operand::default(); OPERANDS],
     }
 }
 
-fn instruction_record(first: u32, row: u64, behind: &[u32]) -> Record
-    requires { ReadableRow (is_predicated first) (decoded row) behind.now }
-    ensures { result ≡ instruction_record first (array_of (with_predicate (is_predicated first) (decoded row)) behind.now) }
+// The record of an instruction with operands, from its first token.
+fn instruction_record(first: u32, operands: [Operand; OPERANDS]) -> Record
+    ensures { result ≡ instruction_record first operands }
 {
-    let operands = read_operands(row, first / 0x1000_0000 % 2 == 1, behind);
     Record {
         opcode: first % 0x1_0000,
         controls: first / 0x1_0000 % 0x100,
@@ -274,32 +219,6 @@ fn instruction_record(first: u32, row: u64, behind: &[u32]) -> Record
         extent: 0,
         operands,
     }
-}
-
-// The record of an instruction whose opcode has no operands. No lawful one is predicated; one that is all the same has a predicate behind
-// an operand of place 0, as the places of its shape say.
-fn bare_record(first: u32, behind: &[u32]) -> Record
-    requires { Readable (decoded (pick (is_predicated first) (predicated_row 0) 0)) behind.now }
-    ensures { result ≡ instruction_record first (array_of (decoded (pick (is_predicated first) (predicated_row 0) 0)) behind.now) }
-{
-    if first / 0x1000_0000 % 2 == 1 {
-        let none = no_operand();
-        let unplaced = read_operand(0, behind, 0);
-        let predicate = read_operand(places::PREDICATE, behind, unplaced.next);
-        let a = unplaced.operand;
-        let p = predicate.operand;
-        let operands = [a, none, none, none, none, p];
-        let coissue = first / 0x4000_0000 % 2;
-        return Record {
-            opcode: first % 0x1_0000,
-            controls: first / 0x1_0000 % 0x100,
-            predicated: 1,
-            coissue,
-            extent: 0,
-            operands,
-        };
-    }
-    instruction_record(first, 0, behind)
 }
 
 // The record of a refusal: all zero.
@@ -320,10 +239,11 @@ pub fn read_record(version: Version, class: u64, first: u32, behind: &[u32]) -> 
     if class == told::END {
         return empty_record(paper::END, 0);
     }
+    let predicated = first / 0x1000_0000 % 2 == 1;
     let shape = opcodes::shape_of(version, instruction_token::opcode_of(first));
     let row = shapes::places_in(shape);
-    if row == 0 {
-        return bare_record(first, behind);
+    if predicated & (row == 0) {
+        return instruction_record(first, unplaced_operands(behind));
     }
-    instruction_record(first, row, behind)
+    instruction_record(first, read_operands(row, predicated, behind))
 }

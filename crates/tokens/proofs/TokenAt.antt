@@ -1,12 +1,12 @@
 -- Laws of one token at its place.
 use mathlib.Core.Path.{◌≡◌, refl, sym, ◌∙◌}
-use mathlib.Core.Bool.{Bool, true, false, not, ◌&&◌, ◌||◌}
+use mathlib.Core.Bool.{Bool, true, false, ◌&&◌}
 use mathlib.Core.List.{List, [], ◌∷◌}
 use Prim.Native.Nat.{ℕ, zero, suc, ◌*◌, ◌%◌, ◌^◌, ◌<◌, ◌≤◌}
 use native.Mathlib.Nat.{add-zero, one-mul, mod-lt, mod-eq_of_lt, pow-le-pow_right}
 use native.Mathlib.Omega.{arith}
-use lib.Dec.{eqb, leb, ltb, lit<}
-use borrow.Author.Tests.{eq-eqb, ne_eqb, leb-true, ltb-true, le-ltb, not-true}
+use lib.Dec.{eqb, leb, lit<}
+use borrow.Author.Tests.{ne_eqb, leb-true, le-ltb}
 use Rattle.paper.specs.Notation.{bits, bit, pick, among}
 use Rattle.paper.specs.OperandTokens.{modifier_of, plain_modifiers, predicate_types, is_free, destination_laid, source_laid, laid, typed, type_of, fault_at, layout_then_type, token_at}
 use Rattle.versions.specs.Sets.{set_of, holds}
@@ -16,16 +16,18 @@ use Rattle.places.specs.Places.{only_type, types_by, place_by}
 use Rattle.places.proofs.Places.{by_place}
 use Rattle.paper.specs.declared.Version.{Version}
 use Rattle.paper.proofs.Bools.{both_left, both_right, never, apart}
-use Rattle.paper.proofs.Faults.{is_good, token_good}
-use Rattle.paper.specs.Numbers.{told_token}
-use Rattle.paper.proofs.Below.{below, below_at}
+use Rattle.paper.proofs.Faults.{is_good, faultless, token_good}
+use Rattle.std.specs.Prelude.{Some, None, Ok, Err, is_ok}
+use Rattle.paper.specs.Judgements.{bad_token}
+use Rattle.paper.specs.declared.Reason.TheVariants.{Register as REGISTER}
+use Rattle.tokens.specs.declared.Wrong.TheVariants.{Layout, Register}
 use Rattle.paper.specs.Places.{Types, only, Place, raw, usage, declared, destination, source, condition, predicate, relative, is_raw, is_destination}
 use Rattle.tokens.specs.Brief.{briefly, brief}
 use Rattle.tokens.specs.Plain.{plain_source, plain_destination}
 use Rattle.tokens.specs.Tabled.{is_tabled, types_at}
 
 -- "R any 32 bits"; of U nothing is told by itself
-pub raw_brief : (v : Version) (place : Place) (token : ℕ) → is_raw place ≡ true → 0 ≡ brief v place token
+pub raw_brief : (v : Version) (place : Place) (token : ℕ) → is_raw place ≡ true → Ok tt ≡ brief v place token
 raw_brief v raw token r = refl
 raw_brief v usage token r = refl
 raw_brief v declared token r = never r
@@ -37,32 +39,39 @@ raw_brief v relative token r = never r
 
 -- what is told in brief, and what is told of the fault
 module _ (v : Version) (place : Place) (token : ℕ) where
-  both_brief : (is_laid is_typed : Bool) → eqb (briefly is_laid is_typed) 0 ≡ is_laid && is_typed
+  both_brief : (is_laid is_typed : Bool) → is_ok (briefly is_laid is_typed) ≡ is_laid && is_typed
   both_brief true true = refl
   both_brief true false = refl
   both_brief false is_typed = refl
 
-  pub brief_good : eqb (brief v place token) 0 ≡ is_good (token_at v place token)
+  pub brief_good : is_ok (brief v place token) ≡ is_good (token_at v place token)
   brief_good = both_brief (laid v place token) (typed v place (type_of token)) ∙ sym (token_good v place token)
 
-  pub brief_mislaid : brief v place token ≡ 1 → token_at v place token ≡ fault_at v place token
+  pub brief_mislaid : brief v place token ≡ Err Layout → token_at v place token ≡ fault_at v place token
   unfolding token_at
   brief_mislaid e = by (laid v place token) (typed v place (type_of token)) e
     where
-      by : (is_laid is_typed : Bool) → briefly is_laid is_typed ≡ 1 → layout_then_type is_laid is_typed (fault_at v place token) ≡ fault_at v place token
-      by true true f = apart f
-      by true false f = absurd (omega arith)
+      by : (is_laid is_typed : Bool) → briefly is_laid is_typed ≡ Err Layout → layout_then_type is_laid is_typed (fault_at v place token) ≡ fault_at v place token
+      by true true f = apart (cc)
+      by true false f = apart (cc)
       by false is_typed f = refl
 
-  pub brief_type : (brief v place token ≡ 0 → ⊥) → (brief v place token ≡ 1 → ⊥) → told_token (token_at v place token) ≡ brief v place token
-  unfolding token_at
-  brief_type some other = by (laid v place token) (typed v place (type_of token)) some other
+  pub brief_faulty : brief v place token ≡ Err Layout → is_good (fault_at v place token) ≡ false
+  brief_faulty e = by (laid v place token) (typed v place (type_of token)) (faultless v token place) e
     where
-      by : (is_laid is_typed : Bool) → (briefly is_laid is_typed ≡ 0 → ⊥) → (briefly is_laid is_typed ≡ 1 → ⊥) →
-          told_token (layout_then_type is_laid is_typed (fault_at v place token)) ≡ briefly is_laid is_typed
-      by true true f g = absurd (f refl)
-      by true false f g = refl
-      by false is_typed f g = absurd (g refl)
+      by : (is_laid is_typed : Bool) → is_good (fault_at v place token) ≡ is_laid → briefly is_laid is_typed ≡ Err Layout → is_good (fault_at v place token) ≡ false
+      by true true l f = apart (cc)
+      by true false l f = apart (cc)
+      by false is_typed l f = l
+
+  pub brief_type : brief v place token ≡ Err Register → token_at v place token ≡ bad_token REGISTER 0
+  unfolding token_at
+  brief_type e = by (laid v place token) (typed v place (type_of token)) e
+    where
+      by : (is_laid is_typed : Bool) → briefly is_laid is_typed ≡ Err Register → layout_then_type is_laid is_typed (fault_at v place token) ≡ bad_token REGISTER 0
+      by true true f = apart (cc)
+      by true false f = refl
+      by false is_typed f = apart (cc)
 
 predicate_agree : Agrees predicate_types
 unfolding holds
@@ -127,34 +136,37 @@ untabled n h =
       ne_eqb n 91 (λ e. never (sym (rw e at h))),
     )
 
--- the table of types has no number from 92 on
-pub none_from : (n : ℕ) → 92 ≤ n → types_at n ≡ 0
-unfolding types_at
+-- a place is one of the tables exactly if this is not 0, and none is from 92 on
+abbrev pub tabled_number : ℕ → ℕ
+tabled_number n = pick (is_tabled n) 1 0
+
+pub none_from : (n : ℕ) → 92 ≤ n → tabled_number n ≡ 0
 none_from n h = rw (le-ltb n 92 h)
 
--- what the table has of a place tells whether it has the place
-tabled_some : below (λ n. not (is_tabled n) || not (eqb (types_at n) 0)) 92 ≡ true
-unfolding types_at types_by
-tabled_some = refl
-
-some_types : (n : ℕ) → is_tabled n ≡ true → eqb (types_at n) 0 ≡ false
-some_types n t =
-    not-true _ (rw t at (below_at (λ n. not (is_tabled n) || not (eqb (types_at n) 0)) 92 n tabled_some (ltb-true n 92 (both_left (ltb n 92) _ t))))
-
-pub tabled_by : (n : ℕ) → (types_at n ≡ 0 → ⊥) → is_tabled n ≡ true
+pub none_tabled : (n : ℕ) → tabled_number n ≡ 0 → types_at n ≡ None
 unfolding types_at
-tabled_by n some = by (is_tabled n) some
+none_tabled n none = by (is_tabled n) none
   where
-    by : (b : Bool) → (pick b (set_of (types_by n)) 0 ≡ 0 → ⊥) → b ≡ true
-    by true h = refl
-    by false h = absurd (h refl)
+    by : (b : Bool) → ◌≡◌ {A = ℕ} (pick b 1 0) 0 → pick b (Some (set_of (types_by n))) None ≡ None
+    by true h = absurd (omega arith)
+    by false h = refl
 
-pub untabled_by : (n : ℕ) → types_at n ≡ 0 → is_tabled n ≡ false
-untabled_by n none = by (is_tabled n) refl
+-- what the table has of a place tells whether it has the place
+pub tabled_by : (n types : ℕ) → types_at n ≡ Some types → (is_tabled n ≡ true) × (types ≡ set_of (types_by n))
+unfolding types_at
+tabled_by n types some = by (is_tabled n) some
   where
-    by : (b : Bool) → is_tabled n ≡ b → b ≡ false
-    by true t = never (sym (some_types n t) ∙ eq-eqb (types_at n) 0 none)
-    by false t = refl
+    by : (b : Bool) → pick b (Some (set_of (types_by n))) None ≡ Some types → (b ≡ true) × (types ≡ set_of (types_by n))
+    by true h = (refl, cc)
+    by false h = apart (cc)
+
+pub untabled_by : (n : ℕ) → types_at n ≡ None → is_tabled n ≡ false
+unfolding types_at
+untabled_by n none = by (is_tabled n) none
+  where
+    by : (b : Bool) → pick b (Some (set_of (types_by n))) None ≡ None → b ≡ false
+    by true h = apart (cc)
+    by false h = refl
 
 -- the types of a number that has no name, by their set
 module _ (n token : ℕ) where
@@ -165,36 +177,27 @@ module _ (n token : ℕ) where
   several true types others tested held = set_among types tested (type_of token) (type_small token)
   several false types others tested held = held
 
-  pub types_held : Held (types_by n)
+  types_held : Held (types_by n)
   unfolding types_by holds
   types_held =
       several (eqb n 56) _ _ refl (several (eqb n 57) _ _ refl (several (eqb n 58) _ _ refl (several (eqb n 59) _ _ refl
       (several (eqb n 87) _ _ refl (several (eqb n 88) _ _ refl (several (eqb n 89) _ _ refl (several (eqb n 90) _ _ refl (several (eqb n 91) _ _ refl
       (rw add-zero (one_among (only_type n) (type_of token) (mod-lt n (lit< tt)) (type_small token)))))))))))
 
-pub types_tabled : (n token : ℕ) → is_tabled n ≡ true → holds (types_at n) (type_of token) ≡ among (type_of token) (types_by n)
-unfolding types_at
-types_tabled n token t = rw t (types_held n token)
+-- the types of a place of the tables
+pub types_tabled : (n types token : ℕ) → types_at n ≡ Some types → holds types (type_of token) ≡ among (type_of token) (types_by n)
+types_tabled n types token some = rw (tabled_by n types some).1 (types_held n token)
 
 -- the places that are neither kept as they stand nor free
 module _ (v : Version) (token : ℕ) where
-  abbrev LaidDestination : ℕ → Place → Type 0
-  LaidDestination n p = is_raw p ≡ false → is_free p ≡ false → is_destination p ≡ true → laid v declared token ≡ laid v p token
+  abbrev KindLaid : ℕ → Place → Type 0
+  KindLaid n p =
+      is_raw p ≡ false → is_free p ≡ false → (n ≡ 93 → ⊥) → (n ≡ 94 → ⊥) → pick (is_destination p) (laid v declared token) (laid v condition token) ≡ laid v p token
 
-  pub typed_destination_at : (n : ℕ) → LaidDestination n (place_by n)
-  typed_destination_at =
-      by_place LaidDestination (λ r f d. never d) (λ r f d. never d) (λ r f d. refl) (λ r f d. never (sym f)) (λ r f d. never d)
-      (λ r f d. never d) (λ r f d. never d) (λ r f d. never d) (λ n u h r f d. refl) (λ n u h r f d. never d)
-
-  abbrev LaidSource : ℕ → Place → Type 0
-  LaidSource n p =
-      is_raw p ≡ false → is_free p ≡ false → is_destination p ≡ false → (n ≡ 93 → ⊥) → (n ≡ 94 → ⊥) → laid v condition token ≡ laid v p token
-
-  pub typed_source_at : (n : ℕ) → LaidSource n (place_by n)
-  typed_source_at =
-      by_place LaidSource (λ r f d p e. never (sym r)) (λ r f d p e. never (sym r)) (λ r f d p e. never (sym d)) (λ r f d p e. never (sym f))
-      (λ r f d p e. refl) (λ r f d p e. absurd (p refl)) (λ r f d p e. absurd (e refl)) (λ r f d p e. never (sym f)) (λ n u h r f d p e. never (sym d))
-      (λ n u h r f d p e. refl)
+  pub kind_laid_at : (n : ℕ) → KindLaid n (place_by n)
+  kind_laid_at =
+      by_place KindLaid (λ r f p e. never (sym r)) (λ r f p e. never (sym r)) (λ r f p e. refl) (λ r f p e. never (sym f)) (λ r f p e. refl)
+      (λ r f p e. absurd (p refl)) (λ r f p e. absurd (e refl)) (λ r f p e. never (sym f)) (λ n u h r f p e. refl) (λ n u h r f p e. refl)
 
   abbrev Typed : ℕ → Place → Type 0
   Typed n p =

@@ -1,5 +1,5 @@
 -- The places of the tables that have no name, a destination or a source of one type or several, and their types as a set.
-use Rattle.std.specs.Prelude.{ℕ, Bool, ◌&&◌, ◌||◌, leb, ltb}
+use Rattle.std.specs.Prelude.{ℕ, Bool, ◌&&◌, ◌||◌, leb, ltb, Option, Some, None}
 use Rattle.paper.specs.Notation.{pick}
 use Rattle.versions.specs.Sets.{set_of}
 use Rattle.places.specs.Places.{types_by}
@@ -9,6 +9,6 @@ abbrev pub is_tabled : ℕ → Bool
 is_tabled n =
     ltb n 92 && (leb 32 n && (ltb n 52 || ((leb 56 n && ltb n 60) || ((leb 64 n && ltb n 84) || leb 87 n))))
 
--- 0 at any other place
-unfoldable pub types_at : ℕ → ℕ
-types_at n = pick (is_tabled n) (set_of (types_by n)) 0
+-- none at any other place
+unfoldable pub types_at : ℕ → Option ℕ
+types_at n = pick (is_tabled n) (Some (set_of (types_by n))) None

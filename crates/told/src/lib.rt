@@ -3,10 +3,10 @@
 
 ghost use Rattle.std.specs.Prelude.{◌≡◌, ◌%◌, ◌^◌};
 ghost use Rattle.paper.specs.Judgements.{as_judged};
-ghost use Rattle.paper.specs.Numbers.{number_of, reason_by, refusal, told_instruction};
+ghost use Rattle.paper.specs.Numbers.{number_of, fault_of, reason_by, refusal, told_instruction};
 ghost use Rattle.told.specs.Numbered.{yes_number, fault_number, refusal_number, is_refusal, taken_in, size_in, kind_in, is_plain, tells_phase, number_in, bit_in, position_in, class_by, judged_from};
 
-use paper::{Class, Closer, Instruction, Opener, Reason, Refusal, Single};
+use paper::{Class, Closer, Fault, Instruction, Opener, Reason, Refusal, Single};
 
 // Behind the lowest bit of a yes stands the class, and above it the size.
 const HALF: u64 = 2;
@@ -49,18 +49,19 @@ pub fn yes(size: u32, class: u64) -> u64
     std::num::wrapping_add_u64(WHOLE * size as u64, doubled)
 }
 
-// A refusal: what is told of its fault, the number of its reason and above it the detail, and its position from the first token on.
-pub fn refused(fault: u32, position: u32) -> u64
-    ensures { result ≡ fault_number fault position }
+// A refusal: the fault, the number of its reason and above it the bit, and its position from the first token on.
+pub fn refused(fault: Fault, position: u32) -> u64
+    ensures { result ≡ fault_number (fault_of fault.reason fault.bit) position }
 {
-    PLACED * position as u64 + (HALF * fault as u64 + 1)
+    let told = paper::number_of(fault.reason) as u64 + NUMBERS * fault.bit as u64;
+    PLACED * position as u64 + (HALF * told + 1)
 }
 
 // A refusal of the whole instruction, which stands at its first token.
 pub fn refused_first(reason: Reason) -> u64
     ensures { result ≡ refusal_number (refusal reason 0) }
 {
-    refused(paper::number_of(reason), 0)
+    refused(Fault::of(reason), 0)
 }
 
 pub fn is_refused(told: u64) -> bool

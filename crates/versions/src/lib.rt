@@ -9,6 +9,7 @@ ghost use Rattle.paper.specs.OperandTokens.{relative_sources, relative_destinati
 ghost use Rattle.paper.specs.Dcl.{declares_face};
 ghost use Rattle.versions.specs.Sets.{set_of, holds};
 ghost use Rattle.versions.specs.Rows.{form_of, rank, row_number};
+ghost use Rattle.versions.specs.Forms.{form_number};
 
 use paper::Version;
 
@@ -28,6 +29,14 @@ pub fn version_of(token: u32) -> Option<Version>
         0xFFFF_0104 => Some(Version::P14),
         _ => None,
     }
+}
+
+// The forms of U, by the digit that a row has for them; 0 is that of a type that is not declared.
+#[derive(Clone, Copy, PartialEq, Eq)]
+pub enum Form {
+    Sampler = 1,
+    Plain = 2,
+    Usage = 3,
 }
 
 // What a version has, one number of specs/Rows.antt for each: a bit for each property, and the rank.
@@ -66,13 +75,11 @@ const MISCELLANEOUS: u64 = 1 << 34;
 
 const FORMS: u64 = 4;
 
-pub const NO_FORM: u64 = 0;
+const SAMPLER_FORM: u64 = Form::Sampler as u64;
 
-pub const SAMPLER_FORM: u64 = 1;
+const PLAIN_FORM: u64 = Form::Plain as u64;
 
-pub const PLAIN_FORM: u64 = 2;
-
-pub const USAGE_FORM: u64 = 3;
+const USAGE_FORM: u64 = Form::Usage as u64;
 
 // The rows.
 const VS_2_0: u64 = USAGE_FORM * INPUT + RELATIVE_SOURCES + ADDRESSES + SIZES;
@@ -264,13 +271,18 @@ pub fn free_source_types(version: Version) -> u32
     }
 }
 
-// The form of U that DCL takes with a token's register type.
-pub fn form_of(version: Version, token: u32) -> u64
-    ensures { result ≡ form_of version (type_of token) }
+// The form of U that DCL takes with a token's register type, if it takes one.
+pub fn form_of(version: Version, token: u32) -> Option<Form>
+    ensures { form_number result ≡ form_of version (type_of token) }
 {
     let row = row_of(version);
     let kind = type_of(token);
-    ((row % PIXEL) >> (2 * kind)) % FORMS
+    match ((row % PIXEL) >> (2 * kind)) % FORMS {
+        0 => None,
+        1 => Some(Form::Sampler),
+        2 => Some(Form::Plain),
+        _ => Some(Form::Usage),
+    }
 }
 
 pub fn condition_typed(version: Version, token: u32) -> bool

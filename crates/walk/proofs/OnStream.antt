@@ -24,7 +24,7 @@ use Rattle.blocks.proofs.Reach.{reached, reaches_on}
 use Rattle.blocks.specs.Nesting.{nesting, count_of}
 use Rattle.blocks.proofs.Counting.{counts_add, walked_nesting}
 use Rattle.walk.specs.declared.State.{State}
-use Rattle.walk.specs.declared.Move.TheVariants.{On, Done}
+use Rattle.walk.specs.declared.Pace.TheVariants.{On, Done}
 use Rattle.walk.specs.Kinds.{kinds_number, numbered, next_by}
 use Rattle.walk.specs.Steps.{wrapped, begun, behind_of, step_of, on_next_by, on_judged}
 use Rattle.walk.specs.Stands.{Stands, step_at, Comes}
@@ -140,10 +140,10 @@ module _ (v : Version) (s : List ℕ) (state : State) (h : Stands v s state) (lt
     comes_next : (x : Said) → step h.carries class ≡ x → Comes v s (state.at + 1) (on_next_by (numbered x) state size class)
     unfolding nesting
     comes_next (go w) f =
-        subst (λ (x : State). Comes v s (state.at + 1) (step_of On x)) (behind_is (kinds_number w.kinds)) (stands_behind w f, omega arith)
+        subst (λ (x : State). Comes v s (state.at + 1) (step_of (Ok On) x)) (behind_is (kinds_number w.kinds)) (stands_behind w f, omega arith)
     comes_next (bad reason) f = sym (stands_verdict v s state h ∙ rw (cut_good, f))
     comes_next finish f =
-        subst (λ (x : State). Comes v s (state.at + 1) (step_of Done x)) (behind_is state.kinds)
+        subst (λ (x : State). Comes v s (state.at + 1) (step_of (Ok Done) x)) (behind_is state.kinds)
         (at_end_lem v s (state.at + suc size) (counts class state.count) counts_behind (ltb (state.at + suc size) (length s)) refl
         ∙ sym (stands_verdict v s state h ∙ rw (cut_good, f)))
 

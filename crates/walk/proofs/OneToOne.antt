@@ -1,4 +1,5 @@
 -- What is told of a step leaves one answer, and so does the promise of a pass.
+use Rattle.std.specs.Prelude.{Ok, Err}
 use Rattle.std.proofs.Common.{◌≡◌, ℕ, eqb, List, sym, refl, ap, ◌∙◌, ne_eqb}
 use Rattle.paper.specs.Notation.{pick}
 use Rattle.paper.specs.Numbers.{number_of, reason_by, refusal_at_bit}
@@ -9,24 +10,23 @@ use Rattle.told.specs.Numbered.{judged_from}
 use Rattle.stretches.specs.declared.Stretch.{Stretch}
 use Rattle.stretches.proofs.Stretches.{one_stretch}
 use Rattle.walk.specs.declared.State.{State}
-use Rattle.walk.specs.declared.Move.{Move}
-use Rattle.walk.specs.declared.Move.TheVariants.{On, Done, Refused}
+use Rattle.walk.specs.declared.Pace.TheVariants.{On, Done}
 use Rattle.walk.specs.declared.Step.{Step}
-use Rattle.walk.specs.Steps.{passed, step_of, on_judged, ToldStep, told_move, told_step, Passes}
+use Rattle.walk.specs.Steps.{passed, step_of, on_judged, ToldStep, told_move, told_step, Passes, Answer}
 
 step_from : ToldStep → Step
 step_from t =
     step_of
-    (pick (eqb t.number 0) (pick (eqb t.finished 0) On Done) (Refused (refusal_at_bit (reason_by t.number) t.position t.detail)))
+    (pick (eqb t.number 0) (pick (eqb t.finished 0) (Ok On) (Ok Done)) (Err (refusal_at_bit (reason_by t.number) t.position t.detail)))
     t.state
 
-step_back : (answer : Move) (state : State) → step_from (told_move answer state) ≡ step_of answer state
+step_back : (answer : Answer) (state : State) → step_from (told_move answer state) ≡ step_of answer state
 unfolding step_from
-step_back On state = refl
-step_back Done state = refl
-step_back (Refused r) state =
+step_back (Ok On) state = refl
+step_back (Ok Done) state = refl
+step_back (Err r) state =
     rw (ne_eqb (number_of r.reason) 0 (λ e. no_reason_zero r.reason (sym e)))
-    (ap (λ (x : Reason). step_of (Refused (refusal_at_bit x r.position r.detail)) state) (reason_back r.reason))
+    (ap (λ (x : Reason). step_of (Err (refusal_at_bit x r.position r.detail)) state) (reason_back r.reason))
 
 pub same_step : (a b : Step) → told_step a ≡ told_step b → a ≡ b
 unfolding told_step

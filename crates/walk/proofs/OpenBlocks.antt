@@ -1,4 +1,5 @@
 -- The number of the open blocks, and the step over it.
+use Rattle.std.specs.Prelude.{Some, Ok, Err}
 use Rattle.std.proofs.Common.{◌≡◌, ℕ, zero, suc, ◌+◌, ◌*◌, ◌/◌, ◌%◌, ◌^◌, ◌<◌, ◌≤◌, Bool, true, false, not, ◌&&◌, ◌||◌, eqb, ltb, List, [], ◌∷◌, length, sym, refl, ap, ◌∙◌, pow-suc, arith, ltb-false, ltb-true, le-ltb, lt-ltb, ne_eqb}
 use Rattle.paper.proofs.Bools.{apart, or_false}
 use Rattle.paper.specs.Notation.{pick}
@@ -14,7 +15,6 @@ use Rattle.paper.specs.declared.Closer.{Closer}
 use Rattle.paper.specs.declared.Closer.TheVariants.{Else, EndIf, EndLoop, EndRep, End}
 use Rattle.paper.specs.declared.Reason.{Reason}
 use Rattle.paper.specs.declared.Reason.TheVariants.{Block as BLOCK, Depth as DEPTH}
-use Rattle.walk.specs.declared.Next.TheVariants.{Go, Bad}
 use Rattle.walk.specs.Kinds.{base, opener_digit, digit_of, kinds_number, numbered, loop_digit, loop_within, in_loop_by, allowed_by, stands_by, opens_by, closes_by, next_by}
 
 digit_small : (k : Kind) → (1 ≤ digit_of k) × (digit_of k ≤ 4)
@@ -131,7 +131,7 @@ stands_is w Return = rw (none_open w.kinds) (numbered_pick (is_zero (length w.ki
 stands_is w Phase = rw (none_open w.kinds) (numbered_pick (is_zero (length w.kinds) && not w.phased) (marked true w))
 
 opens_cases : (w : WalkState) (o : Opener) (below : Bool) →
-    pick below (Go (kinds_number w.kinds * base + opener_digit o)) (Bad DEPTH) ≡ numbered (pick below (go (nested (opened o ∷ w.kinds) w)) (bad DEPTH))
+    pick below (Ok (Some (kinds_number w.kinds * base + opener_digit o))) (Err DEPTH) ≡ numbered (pick below (go (nested (opened o ∷ w.kinds) w)) (bad DEPTH))
 unfolding kinds_number
 opens_cases w o true = refl
 opens_cases w o false = refl
@@ -142,7 +142,7 @@ opens_is w o = rw (depth_seen w.kinds (ltb (length w.kinds) most_open) refl) (op
 module _ (ks : List Kind) (w : WalkState) where
   closes_top : (k : Kind) (c : Closer) → closes_by (kinds_number ks * base + digit_of k) c ≡ numbered (close_at c (k ∷ ks) w)
   unfolding kinds_number
-  closes_top (opened If) Else = rw (last (kinds_number ks) (opened If)) (ap Go (omega arith))
+  closes_top (opened If) Else = rw (last (kinds_number ks) (opened If)) (ap (λ (n : ℕ). Ok (Some n)) (omega arith))
   closes_top (opened If) EndIf = rw (last (kinds_number ks) (opened If), others (kinds_number ks) (opened If))
   closes_top (opened If) EndLoop = rw (last (kinds_number ks) (opened If))
   closes_top (opened If) EndRep = rw (last (kinds_number ks) (opened If))

@@ -1,5 +1,6 @@
 -- The open blocks as one number: a digit for each, the innermost lowest. No block has digit 0, so that 0 says that none is open.
-use Rattle.std.specs.Prelude.{ℕ, zero, suc, ◌+◌, ◌-◌, ◌*◌, ◌/◌, ◌%◌, ◌^◌, Bool, false, not, ◌&&◌, ◌||◌, List, [], ◌∷◌, ◌==◌, nat_lt}
+use Rattle.paper.specs.declared.Reason.{Reason}
+use Rattle.std.specs.Prelude.{ℕ, zero, suc, ◌+◌, ◌-◌, ◌*◌, ◌/◌, ◌%◌, ◌^◌, Bool, false, not, ◌&&◌, ◌||◌, List, [], ◌∷◌, ◌==◌, nat_lt, Option, Some, None, Result, Ok, Err}
 use Rattle.paper.specs.Notation.{pick}
 use Rattle.paper.specs.Walk.{Kind, opened, past_else, go, bad, finish}
 use Rattle.paper.specs.Walk.{Next as Said}
@@ -12,8 +13,6 @@ use Rattle.paper.specs.declared.Opener.TheVariants.{If, Loop, Rep}
 use Rattle.paper.specs.declared.Closer.{Closer}
 use Rattle.paper.specs.declared.Closer.TheVariants.{Else, EndIf, EndLoop, EndRep, End}
 use Rattle.paper.specs.declared.Reason.TheVariants.{Block as BLOCK, Depth as DEPTH}
-use Rattle.walk.specs.declared.Next.{Next}
-use Rattle.walk.specs.declared.Next.TheVariants.{Go, Bad, Finish}
 
 abbrev pub base : ℕ
 base = 5
@@ -31,11 +30,15 @@ unfoldable pub kinds_number : List Kind → ℕ
 kinds_number [] = 0
 kinds_number (k ∷ ks) = kinds_number ks * base + digit_of k
 
+-- what an instruction does to the open blocks: the walk goes on with these, or with none is at its end, or why the instruction may not stand
+abbrev pub Next : Type 0
+Next = Result (Option ℕ) Reason
+
 -- what the walk with open blocks does next, said by their number
 abbrev pub numbered : Said → Next
-numbered (go w) = Go (kinds_number w.kinds)
-numbered (bad reason) = Bad reason
-numbered finish = Finish
+numbered (go w) = Ok (Some (kinds_number w.kinds))
+numbered (bad reason) = Err reason
+numbered finish = Ok None
 
 -- the same step over any number, not only that of some open blocks
 
@@ -52,11 +55,11 @@ unfoldable pub in_loop_by : ℕ → Bool
 in_loop_by kinds = loop_within kinds kinds
 
 abbrev pub allowed_by : Bool → ℕ → Next
-allowed_by allowed kinds = pick allowed (Go kinds) (Bad BLOCK)
+allowed_by allowed kinds = pick allowed (Ok (Some kinds)) (Err BLOCK)
 
 abbrev pub stands_by : ℕ → Bool → Single → Next
-stands_by kinds phased Comment = Go kinds
-stands_by kinds phased Plain = Go kinds
+stands_by kinds phased Comment = Ok (Some kinds)
+stands_by kinds phased Plain = Ok (Some kinds)
 stands_by kinds phased Break = allowed_by (in_loop_by kinds) kinds
 stands_by kinds phased Label = allowed_by (kinds == 0) kinds
 stands_by kinds phased Return = allowed_by (kinds == 0) kinds
@@ -64,14 +67,14 @@ stands_by kinds phased Phase = allowed_by (kinds == 0 && not phased) kinds
 
 -- 24 digits, none of them 0, are at least base ^ 23, and 23 digits are below
 abbrev pub opens_by : ℕ → Opener → Next
-opens_by kinds o = pick (nat_lt kinds (base ^ 23)) (Go (kinds * base + opener_digit o)) (Bad DEPTH)
+opens_by kinds o = pick (nat_lt kinds (base ^ 23)) (Ok (Some (kinds * base + opener_digit o))) (Err DEPTH)
 
 abbrev pub closes_by : ℕ → Closer → Next
-closes_by kinds Else = pick (kinds % base == opener_digit If) (Go (kinds + (digit_of past_else - opener_digit If))) (Bad BLOCK)
+closes_by kinds Else = pick (kinds % base == opener_digit If) (Ok (Some (kinds + (digit_of past_else - opener_digit If)))) (Err BLOCK)
 closes_by kinds EndIf = allowed_by (kinds % base == opener_digit If || kinds % base == digit_of past_else) (kinds / base)
 closes_by kinds EndLoop = allowed_by (kinds % base == opener_digit Loop) (kinds / base)
 closes_by kinds EndRep = allowed_by (kinds % base == opener_digit Rep) (kinds / base)
-closes_by kinds End = pick (kinds == 0) Finish (Bad BLOCK)
+closes_by kinds End = pick (kinds == 0) (Ok None) (Err BLOCK)
 
 abbrev pub next_by : ℕ → Bool → Class → Next
 next_by kinds phased (One s) = stands_by kinds phased s

@@ -2,14 +2,15 @@
 #![tactic(auto)]
 
 ghost use Rattle.std.specs.Prelude.{◌≡◌};
-ghost use Rattle.paper.specs.Numbers.{refusal, refusal_at_bit, told};
-ghost use Rattle.paper.specs.Blocks.{is_phase, class_phase};
+ghost use Rattle.paper.specs.Numbers.{told};
+ghost use Rattle.paper.specs.Judgements.{good_instruction};
+ghost use Rattle.paper.specs.Blocks.{class_phase};
 ghost use Rattle.paper.specs.Walk.{counts};
 ghost use Rattle.told.specs.Numbered.{judged_from};
 ghost use Rattle.walk.specs.Kinds.{in_loop_by, allowed_by, stands_by, opens_by, closes_by, next_by};
-ghost use Rattle.walk.specs.Steps.{wrapped, begun, behind_of, step_of, on_next_by, on_judged, advanced, goes_on, end_of, verdict_of, told_step, Passes};
+ghost use Rattle.walk.specs.Steps.{wrapped, begun, behind_of, on_judged, advanced, goes_on, end_of, verdict_of, told_step, Passes};
 
-use paper::{Class, Closer, Judged, Opener, Reason, Refusal, Single, Verdict, Version};
+use paper::{Class, Closer, Instruction, Opener, Reason, Refusal, Single, Verdict, Version};
 
 // "Bits 27:24 are the size": nothing but a comment claims more tokens behind its first one, and an instruction is judged by no more
 // than its first token and these.
@@ -18,6 +19,7 @@ pub const MOST_CLAIMED: usize = 15;
 pub const MOST_SHOWN: usize = MOST_CLAIMED + 1;
 
 // The open blocks are one number, a digit for each, the innermost lowest. No digit is 0, so that 0 says that none is open.
+// One number, and no list of an enum: a state is a few words, and one comparison tells an edit whether two walks have the same blocks open.
 const BASE: u64 = 5;
 
 const LOOP: u64 = 1;
@@ -31,13 +33,8 @@ const PAST_ELSE: u64 = 4;
 // BASE to the 23rd: with 24 blocks open their number is at least this.
 const DEEPEST: u64 = 11_920_928_955_078_125;
 
-// What an instruction does to the open blocks: the walk goes on with these, is refused, or is at its end.
-#[derive(Clone, Copy)]
-pub enum Next {
-    Go(u64),
-    Bad(Reason),
-    Finish,
-}
+// What an instruction does to the open blocks: the walk goes on with these, or with none is at its end; or why the instruction may not stand.
+type Next = Result<Option<u64>, Reason>;
 
 // Whether a LOOP or a REP is among the open blocks.
 fn in_loop(kinds: u64) -> bool
@@ -46,10 +43,10 @@ fn in_loop(kinds: u64) -> bool
     let mut left = kinds;
     while left != 0 {
         let kind = left % BASE;
-        if (kind == LOOP) | (kind == REP) {
+        if kind == LOOP || kind == REP {
             return true;
         }
-        left = left / BASE;
+        left /= BASE;
     }
     false
 }
@@ -58,35 +55,35 @@ fn go_if(allowed: bool, kinds: u64) -> Next
     ensures { result ≡ allowed_by allowed kinds }
 {
     if allowed {
-        return Next::Go(kinds);
+        Ok(Some(kinds))
+    } else {
+        Err(Reason::Block)
     }
-    Next::Bad(Reason::Block)
 }
 
 fn stand_in(kinds: u64, phased: bool, single: Single) -> Next
     ensures { result ≡ stands_by kinds phased single }
 {
     match single {
-        Single::Comment => Next::Go(kinds),
-        Single::Plain => Next::Go(kinds),
+        Single::Comment | Single::Plain => Ok(Some(kinds)),
         Single::Break => go_if(in_loop(kinds), kinds),
-        Single::Label => go_if(kinds == 0, kinds),
-        Single::Return => go_if(kinds == 0, kinds),
-        Single::Phase => go_if((kinds == 0) & !phased, kinds),
+        Single::Label | Single::Return => go_if(kinds == 0, kinds),
+        Single::Phase => go_if(kinds == 0 && !phased, kinds),
     }
 }
 
 fn open_in(kinds: u64, opener: Opener) -> Next
     ensures { result ≡ opens_by kinds opener }
 {
-    if kinds < DEEPEST {
-        return match opener {
-            Opener::If => Next::Go(kinds * BASE + IF),
-            Opener::Loop => Next::Go(kinds * BASE + LOOP),
-            Opener::Rep => Next::Go(kinds * BASE + REP),
-        };
+    if kinds >= DEEPEST {
+        return Err(Reason::Depth);
     }
-    Next::Bad(Reason::Depth)
+    let digit = match opener {
+        Opener::If => IF,
+        Opener::Loop => LOOP,
+        Opener::Rep => REP,
+    };
+    Ok(Some(kinds * BASE + digit))
 }
 
 fn close_in(kinds: u64, closer: Closer) -> Next
@@ -94,21 +91,12 @@ fn close_in(kinds: u64, closer: Closer) -> Next
 {
     let innermost = kinds % BASE;
     match closer {
-        Closer::Else => {
-            if innermost == IF {
-                return Next::Go(kinds + (PAST_ELSE - IF));
-            }
-            Next::Bad(Reason::Block)
-        }
-        Closer::EndIf => go_if((innermost == IF) | (innermost == PAST_ELSE), kinds / BASE),
-        Closer::EndLoop => go_if(innermost == LOOP, kinds / BASE),
-        Closer::EndRep => go_if(innermost == REP, kinds / BASE),
-        Closer::End => {
-            if kinds == 0 {
-                return Next::Finish;
-            }
-            Next::Bad(Reason::Block)
-        }
+        Closer::Else if innermost == IF => Ok(Some(kinds + (PAST_ELSE - IF))),
+        Closer::EndIf if innermost == IF || innermost == PAST_ELSE => Ok(Some(kinds / BASE)),
+        Closer::EndLoop if innermost == LOOP => Ok(Some(kinds / BASE)),
+        Closer::EndRep if innermost == REP => Ok(Some(kinds / BASE)),
+        Closer::End if kinds == 0 => Ok(None),
+        _ => Err(Reason::Block),
     }
 }
 
@@ -122,30 +110,6 @@ fn next_kinds(kinds: u64, phased: bool, class: Class) -> Next
     }
 }
 
-fn is_phase(single: Single) -> bool
-    ensures { result ≡ is_phase single }
-{
-    match single {
-        Single::Comment => false,
-        Single::Plain => false,
-        Single::Break => false,
-        Single::Label => false,
-        Single::Return => false,
-        Single::Phase => true,
-    }
-}
-
-// Whether an instruction of this class marks that a PHASE has stood.
-fn marks(class: Class) -> bool
-    ensures { result ≡ class_phase class }
-{
-    match class {
-        Class::One(single) => is_phase(single),
-        Class::Opens(_) => false,
-        Class::Closes(_) => false,
-    }
-}
-
 // Where a walk stands: the position of the next instruction, the number of instructions before it, comments not counted, the open blocks,
 // and whether a PHASE has stood.
 #[derive(Clone, Copy)]
@@ -156,18 +120,18 @@ pub struct State {
     pub phased: bool,
 }
 
-// What a step of the walk answers: it goes on, is behind an END that finishes the stream, or is refused.
-#[derive(Clone, Copy)]
-pub enum Move {
+// What a step of the walk answers that is not refused: it goes on, or is behind an END that finishes the stream.
+#[derive(Clone, Copy, PartialEq, Eq)]
+pub enum Pace {
     On,
     Done,
-    Refused(Refusal),
 }
 
 // A step of the walk: its answer, and the state behind the instruction; of a refusal, the state before it.
+// Not itself a Result: what `step_over` and `pass` promise, by `told_step`, tells the state of a refusal too.
 #[derive(Clone, Copy)]
 pub struct Step {
-    pub answer: Move,
+    pub answer: Result<Pace, Refusal>,
     pub state: State,
 }
 
@@ -183,73 +147,52 @@ pub fn start() -> State
     }
 }
 
-fn refused(reason: Reason, position: usize, detail: usize, state: State) -> Step
-    ensures { result ≡ step_of (Move.Refused (refusal_at_bit reason position detail)) state }
-{
-    Step {
-        answer: Move::Refused(Refusal {
-            reason,
-            position,
-            detail,
-        }),
-        state,
-    }
-}
-
 // "the number of instructions, comments and END not counted"
 fn counted(class: Class, count: usize) -> usize
     ensures { result ≡ wrapped (counts class count) }
 {
-    let more = std::num::wrapping_add_usize(count, 1);
     match class {
-        Class::One(single) => match single {
-            Single::Comment => count,
-            Single::Plain | Single::Break | Single::Label | Single::Return | Single::Phase => more,
-        },
-        Class::Opens(_) => more,
-        Class::Closes(closer) => match closer {
-            Closer::Else | Closer::EndIf | Closer::EndLoop | Closer::EndRep => more,
-            Closer::End => count,
-        },
+        Class::One(Single::Comment) | Class::Closes(Closer::End) => count,
+        _ => count.wrapping_add(1),
     }
 }
 
-// The state behind an instruction of this class that takes `size` tokens behind its first one.
-fn behind_of(state: State, size: usize, class: Class, kinds: u64) -> State
-    ensures { result ≡ behind_of state size class kinds }
+// Whether an instruction of this class marks that a PHASE has stood.
+fn marks(class: Class) -> bool
+    ensures { result ≡ class_phase class }
 {
-    let at = std::num::wrapping_add_usize(std::num::wrapping_add_usize(state.at, size), 1);
-    let count = counted(class, state.count);
-    let phased = state.phased | marks(class);
+    matches!(class, Class::One(Single::Phase))
+}
+
+// The state behind an instruction, with these blocks open.
+fn behind_of(state: State, instruction: Instruction, kinds: u64) -> State
+    ensures { result ≡ behind_of state instruction.size instruction.class kinds }
+{
     State {
-        at,
-        count,
+        at: state.at.wrapping_add(instruction.size).wrapping_add(1),
+        count: counted(instruction.class, state.count),
         kinds,
-        phased,
+        phased: state.phased | marks(instruction.class),
     }
 }
 
 // A good instruction, which the open blocks and the mark of a PHASE let stand, or do not.
-fn nested(state: State, size: usize, class: Class) -> Step
-    ensures { result ≡ on_next_by (next_by state.kinds state.phased class) state size class }
+fn nested(state: State, instruction: Instruction) -> Step
+    ensures { result ≡ on_judged (good_instruction instruction.size instruction.class) state }
 {
-    let next = next_kinds(state.kinds, state.phased, class);
-    match next {
-        Next::Go(kinds) => {
-            let behind = behind_of(state, size, class, kinds);
-            Step {
-                answer: Move::On,
-                state: behind,
-            }
-        }
-        Next::Bad(reason) => refused(reason, state.at, 0, state),
-        Next::Finish => {
-            let behind = behind_of(state, size, class, state.kinds);
-            Step {
-                answer: Move::Done,
-                state: behind,
-            }
-        }
+    match next_kinds(state.kinds, state.phased, instruction.class) {
+        Ok(Some(kinds)) => Step {
+            answer: Ok(Pace::On),
+            state: behind_of(state, instruction, kinds),
+        },
+        Ok(None) => Step {
+            answer: Ok(Pace::Done),
+            state: behind_of(state, instruction, state.kinds),
+        },
+        Err(reason) => Step {
+            answer: Err(Refusal::at(state.at, reason)),
+            state,
+        },
     }
 }
 
@@ -257,18 +200,15 @@ fn nested(state: State, size: usize, class: Class) -> Step
 fn moved(state: State, told: u64) -> Step
     ensures { result ≡ on_judged (judged_from told) state }
 {
-    let judged = told::judged_of(told);
-    match judged {
-        Judged::Good(size, class) => nested(state, size, class),
-        Judged::Refused(refusal) => {
-            let reason = refusal.reason;
-            refused(
-                reason,
-                std::num::wrapping_add_usize(state.at, refusal.position),
-                refusal.detail,
-                state,
-            )
-        }
+    match told::judged_of(told) {
+        Ok(instruction) => nested(state, instruction),
+        Err(refusal) => Step {
+            answer: Err(Refusal {
+                position: state.at.wrapping_add(refusal.position),
+                ..refusal
+            }),
+            state,
+        },
     }
 }
 
@@ -277,10 +217,9 @@ pub fn step_over(state: State, tokens: usize, instructions: usize, told: u64) ->
     ensures { told_step result ≡ told_step (on_judged (judged_from told) (advanced state tokens instructions)) }
 {
     let last = State {
-        at: std::num::wrapping_add_usize(state.at, tokens),
-        count: std::num::wrapping_add_usize(state.count, instructions),
-        kinds: state.kinds,
-        phased: state.phased,
+        at: state.at.wrapping_add(tokens),
+        count: state.count.wrapping_add(instructions),
+        ..state
     };
     moved(last, told)
 }
@@ -305,22 +244,7 @@ pub fn pass(
 pub fn goes_on(step: Step, until: usize) -> bool
     ensures { result ≡ goes_on step until }
 {
-    let answer = step.answer;
-    match answer {
-        Move::On => step.state.at < until,
-        Move::Done => false,
-        Move::Refused(_) => false,
-    }
-}
-
-fn refuse(reason: Reason, position: usize) -> Verdict
-    ensures { result ≡ Verdict.Refused (refusal reason position) }
-{
-    Verdict::Refused(Refusal {
-        reason,
-        position,
-        detail: 0,
-    })
+    matches!(step.answer, Ok(Pace::On)) && step.state.at < until
 }
 
 // Behind the END that finishes a stream of so many tokens.
@@ -328,22 +252,17 @@ fn end_of(state: State, tokens: usize) -> Verdict
     ensures { result ≡ end_of state tokens }
 {
     if state.at < tokens {
-        return refuse(Reason::Tail, state.at);
+        return Err(Refusal::at(state.at, Reason::Tail));
     }
-    Verdict::Accepted(state.count)
+    Ok(state.count)
 }
 
 // The verdict of a stream of so many tokens, behind the last step of its walk.
 pub fn verdict_of(step: Step, tokens: usize) -> Verdict
     ensures { told result ≡ told (verdict_of step tokens) }
 {
-    let answer = step.answer;
-    match answer {
-        Move::On => refuse(Reason::RunOut, tokens),
-        Move::Done => {
-            let state = step.state;
-            end_of(state, tokens)
-        }
-        Move::Refused(refusal) => Verdict::Refused(refusal),
+    match step.answer? {
+        Pace::On => Err(Refusal::at(tokens, Reason::RunOut)),
+        Pace::Done => end_of(step.state, tokens),
     }
 }

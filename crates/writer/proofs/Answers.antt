@@ -1,5 +1,5 @@
 -- The answers that the code decides, one by one: what shows RECORD, ROOM and a yes, and what the buffer then holds.
-use Rattle.std.specs.Prelude.{Some}
+use Rattle.std.specs.Prelude.{Some, Ok, Err}
 use mathlib.Core.Path.{◌≡◌, refl, ap, ◌∙◌}
 use mathlib.Core.Bool.{Bool, true, false}
 use mathlib.Core.List.{List, [], ◌∷◌}
@@ -15,7 +15,6 @@ use Rattle.paper.specs.declared.Version.{Version}
 use Rattle.paper.specs.declared.Reason.TheVariants.{Room as ROOM, Record as RECORD}
 use Rattle.records.specs.declared.Record.{Record}
 use Rattle.record_tokens.specs.Tokens.{comment_token, tokens_of}
-use Rattle.writer.specs.declared.Written.TheVariants.{Wrote, Refused}
 use Rattle.writer.specs.Buffer.{pasted}
 use Rattle.writer.specs.Decided.{yielded_comment, reads_back, writable, writing_in, content_in}
 
@@ -34,18 +33,18 @@ version_named token v e = named_among_lem versions token v e
 
 module _ (v : Version) (r : Record) (body buffer : List ℕ) (at : ℕ) where
   pub refused_record : writable v r (length body) ≡ false →
-      (writing_in v r body buffer at ≡ Refused RECORD) × (content_in v r body buffer at ≡ buffer)
+      (writing_in v r body buffer at ≡ Err RECORD) × (content_in v r body buffer at ≡ buffer)
   unfolding writing_in content_in
   refused_record w = (rw w, rw w)
 
   module _ (w : writable v r (length body) ≡ true) where
     pub refused_room : leb (at + length (tokens_of v r body)) (length buffer) ≡ false →
-        (writing_in v r body buffer at ≡ Refused ROOM) × (content_in v r body buffer at ≡ buffer)
+        (writing_in v r body buffer at ≡ Err ROOM) × (content_in v r body buffer at ≡ buffer)
     unfolding writing_in content_in
     refused_room f = (rw (w, f), rw (w, f))
 
     pub yes_written : leb (at + length (tokens_of v r body)) (length buffer) ≡ true →
-        (writing_in v r body buffer at ≡ Wrote (at + length (tokens_of v r body))) × (content_in v r body buffer at ≡ pasted buffer at (tokens_of v r body))
+        (writing_in v r body buffer at ≡ Ok (at + length (tokens_of v r body))) × (content_in v r body buffer at ≡ pasted buffer at (tokens_of v r body))
     unfolding writing_in content_in
     yes_written f = (rw (w, f), rw (w, f))
 

@@ -1,4 +1,5 @@
 -- What the code encodes of a record, before the body that it is lent.
+use Rattle.std.specs.Prelude.{Option, Some, None}
 use mathlib.Core.Path.{◌≡◌, refl, sym, ap, ◌∙◌}
 use mathlib.Core.Bool.{Bool, true, false, ◌&&◌}
 use mathlib.Core.List.{List, [], ◌∷◌, ◌++◌, append-nil}
@@ -6,7 +7,7 @@ use Prim.Native.Nat.{ℕ, suc, ◌+◌, ◌*◌, ◌^◌, ◌≤◌, ◌<◌}
 use native.Mathlib.Omega.{arith}
 use lib.Dec.{eqb, leb}
 use lib.ListN.{length, take}
-use borrow.Author.Tests.{eq-eqb, eqb-true, eqb-false, leb-true}
+use borrow.Author.Tests.{eq-eqb, eqb-true, leb-true}
 use Rattle.lists.proofs.Stores.{front_stored}
 use Rattle.paper.specs.Notation.{pick, bit}
 use Rattle.paper.specs.InstructionToken.{opcode_of, controls_of, is_coissued, comment_opcode, end_opcode, end_token}
@@ -34,9 +35,9 @@ use Rattle.writer.proofs.Tested.{Bare, Kinds, is_bare, in_table, InTable, tested
 use Rattle.writer.proofs.Answers.{comment_writable, comment_tokens, other_writable}
 
 module _ (v : Version) (r : Record) (n : ℕ) where
-  pub encodes_none : (tokens : List ℕ) → writable v r n ≡ false → Encodes v r n 0 tokens
+  pub encodes_none : (tokens : List ℕ) → writable v r n ≡ false → Encodes v r n None tokens
   encodes_none tokens h =
-      record { inside = omega arith; fails = λ none. h; passes = λ some. absurd (some refl); stands = λ some. absurd (some refl) }
+      record { inside = λ some. apart (cc); fails = λ none. h; passes = λ some. apart (cc); stands = λ some. apart (cc) }
 
   some_by : (is_end : Bool) → 1 ≤ length (pick is_end (end_token ∷ []) (encoded_by v r (row_of v r)))
   some_by true = omega arith
@@ -58,13 +59,13 @@ module _ (v : Version) (r : Record) (n : ℕ) where
       stand_by [] long = rw (front, back_tokens v r no_comment y) (sym (append-nil (tokens_of v r [])))
       stand_by (token ∷ body) long = absurd (omega arith)
 
-      pub encodes_other : n ≡ 0 → Encodes v r n count after
+      pub encodes_other : n ≡ 0 → Encodes v r n (Some count) after
       encodes_other none =
           record {
-            inside = put_inside;
-            fails = λ zeros. absurd (omega (arith, put.next_is, encoded_some));
+            inside = λ {count = k} some. let is : count ≡ k = cc in rw (← is) put_inside;
+            fails = λ zeros. apart (cc);
             passes = λ some. other_writable v r no_comment n none ∙ y;
-            stands = λ some body long. stand_by body (long ∙ none);
+            stands = λ {count = k} some body long. let is : count ≡ k = cc in rw (← is) (stand_by body (long ∙ none));
           }
 
 -- END alone is read back
@@ -149,21 +150,17 @@ module _ (v : Version) (r : Record) (n : ℕ) where
           by false c g =
               as_end c agrees (eqb-true r.opcode end_opcode (both_left (eqb r.opcode end_opcode) (eqb n 0) g)) (eqb-true n 0 (both_right (eqb r.opcode end_opcode) (eqb n 0) g))
 
-      module _ (room after : List ℕ) (count : ℕ) (some : 1 ≤ length room) (e : PutIf (bare_fits r.opcode r.extent n) (bare_token r.opcode r.extent ∷ []) room 0 count after) where
-        bare_front : (count ≡ 0 → ⊥) → take count after ≡ word (bare_token r.opcode r.extent) ∷ []
+      module _ (room after : List ℕ) (next : Option ℕ) (some : 1 ≤ length room) (e : PutIf (bare_fits r.opcode r.extent n) (bare_token r.opcode r.extent ∷ []) room next after) where
+        bare_front : {count : ℕ} → next ≡ Some count → take count after ≡ word (bare_token r.opcode r.extent) ∷ []
         unfolding words_of
-        bare_front h =
+        bare_front {count} h =
             let p = e.put h in
             front_stored room (words_of (bare_token r.opcode r.extent ∷ [])) after count (omega (arith, p.next_is)) p.next_is p.after_is
 
-        bare_inside : (b : Bool) → eqb count 0 ≡ b → count ≤ length after
-        bare_inside true z = omega (arith, eqb-true count 0 z)
-        bare_inside false z = let p = e.put (eqb-false count 0 z) in omega (arith, p.next_is, e.long)
-
-        pub bare_encodes : Encodes v r n count after
+        pub bare_encodes : Encodes v r n next after
         bare_encodes =
             record {
-              inside = bare_inside (eqb count 0) refl;
+              inside = λ h. let p = e.put h in omega (arith, p.next_is, e.long);
               fails = λ z. failed v r n (λ w. let t = (bare_kind (tested_kinds v r n w)).fits in let f = e.fails z in bare_apart t f);
               passes = λ h. (bare_passes (e.passes h)).can;
               stands = λ h body long. rw (bare_front h) ((bare_passes (e.passes h)).are body long);

@@ -1,5 +1,5 @@
 -- The code decides as document 01 says: what it decides meets the definition, and nothing else does.
-use Rattle.std.specs.Prelude.{Option, Some, None}
+use Rattle.std.specs.Prelude.{Option, Some, None, Ok}
 use mathlib.Core.Path.{◌≡◌, refl, sym, ap, ◌∙◌}
 use mathlib.Core.Bool.{Bool, true, false}
 use mathlib.Core.List.{List}
@@ -12,7 +12,6 @@ use Rattle.paper.specs.Versions.{named}
 use Rattle.paper.specs.declared.Version.{Version}
 use Rattle.records.specs.declared.Record.{Record}
 use Rattle.record_tokens.specs.Tokens.{tokens_of}
-use Rattle.writer.specs.declared.Written.TheVariants.{Wrote}
 use Rattle.writer.specs.Buffer.{pasted}
 use Rattle.writer.specs.Writing.{Writable, ToldWriting, told_writing, Writes, unnamed, unwritable, cramped, written}
 use Rattle.writer.specs.Decided.{writable, writing_in, content_in, writing_on, content_on, writing, buffer_written}
@@ -77,7 +76,7 @@ pub record SaidYes (version : ℕ) (r : Record) (body buffer : List ℕ) (at nex
   pub after_is : pasted buffer at (tokens_of v r body) ≡ after
 
 module _ (version : ℕ) (r : Record) (body buffer : List ℕ) (at next : ℕ) where
-  yes_by : {told : ToldWriting} {after : List ℕ} → Writes version r body buffer at told after → told ≡ told_writing (Wrote next) →
+  yes_by : {told : ToldWriting} {after : List ℕ} → Writes version r body buffer at told after → told ≡ told_writing (Ok next) →
       SaidYes version r body buffer at next after
   yes_by (unnamed n) e = let number = ap (λ (t : ToldWriting). t.number) e in absurd (omega arith)
   yes_by (unwritable n w) e = let number = ap (λ (t : ToldWriting). t.number) e in absurd (omega arith)
@@ -85,5 +84,5 @@ module _ (version : ℕ) (r : Record) (body buffer : List ℕ) (at next : ℕ) w
   yes_by (written {v} n w h) e =
       record { v = v; is_named_lem = n; can = w; inside = h; next_is = ap (λ (t : ToldWriting). t.next) e; after_is = refl }
 
-  pub said_yes : {after : List ℕ} → Writes version r body buffer at (told_writing (Wrote next)) after → SaidYes version r body buffer at next after
+  pub said_yes : {after : List ℕ} → Writes version r body buffer at (told_writing (Ok next)) after → SaidYes version r body buffer at next after
   said_yes w = yes_by w refl

@@ -1,4 +1,5 @@
 -- Tokens stored in a room one after the other, and at a place of a buffer.
+use Rattle.std.specs.Prelude.{Some, None}
 use mathlib.Core.Path.{◌≡◌, refl, sym, ap, ◌∙◌}
 use mathlib.Core.Bool.{Bool, true, false}
 use mathlib.Core.List.{List, [], ◌∷◌, ◌++◌, append_assoc, map-append}
@@ -10,6 +11,7 @@ use lib.Seq.{sets, sets-eq, length-sets}
 use borrow.Author.Tests.{leb-true, leb-false, le-leb, lt-leb}
 use borrow.Rule.Slice.PartMut.{mid_of, put_mid, mid_len}
 use Rattle.lists.proofs.Stores.{sets_append, sets_before, lent_stored}
+use Rattle.paper.proofs.Bools.{apart}
 use Rattle.writer.specs.Buffer.{word, words_of, pasted, Put}
 use Rattle.writer.specs.Laid.{PutIf}
 
@@ -57,12 +59,15 @@ module _ (room : List ℕ) where
       })
 
 -- put if a test holds
-module _ {test : Bool} {tokens room : List ℕ} {none next : ℕ} {after : List ℕ} where
-  pub put_failed : test ≡ false → next ≡ none → length after ≡ length room → PutIf test tokens room none next after
-  put_failed h e long = record { fails = λ is. h; passes = λ some. absurd (some e); put = λ some. absurd (some e); long = long }
+module _ {test : Bool} {tokens room after : List ℕ} where
+  pub put_failed : test ≡ false → length after ≡ length room → PutIf test tokens room None after
+  put_failed h long = record { fails = λ is. h; passes = λ some. apart (cc); put = λ some. apart (cc); long = long }
 
-  pub put_passed : test ≡ true → (next ≡ none → ⊥) → Put tokens room 0 next after → PutIf test tokens room none next after
-  put_passed h some p = record { fails = λ is. absurd (some is); passes = λ _. h; put = λ _. p; long = put_length p }
+  pub put_passed : {next : ℕ} → test ≡ true → Put tokens room 0 next after → PutIf test tokens room (Some next) after
+  put_passed {next} h p = record { fails = λ none. apart (cc); passes = λ some. h; put = λ {n} some. same n some; long = put_length p }
+    where
+      same : (n : ℕ) → Some next ≡ Some n → Put tokens room 0 n after
+      same n some = let is : next ≡ n = cc in rw (← is) p
 
 -- what is left to be put, and the place for it
 pub record Rest (tokens room left : List ℕ) (next : ℕ) (after : List ℕ) : Type 0 where

@@ -15,7 +15,6 @@ use Rattle.paper.specs.Instruction.{Head, token_head, claim, on_claimed, judged}
 use Rattle.paper.specs.Stream.{most_tokens}
 use Rattle.paper.specs.declared.Version.{Version}
 use Rattle.paper.specs.declared.Reason.TheVariants.{Length as LENGTH, RunOut as RUN_OUT}
-use Rattle.paper.specs.declared.Refusal.{Refusal}
 use Rattle.paper.specs.declared.Class.{Class}
 use Rattle.paper.specs.Judgements.{Judged, good_instruction, bad_instruction}
 use Rattle.paper.proofs.VersionTokens.{named_back}
@@ -26,9 +25,8 @@ use Rattle.records.specs.declared.Operand.{Operand}
 use Rattle.records.specs.declared.Record.{Record}
 use Rattle.records.specs.Record.{end_record, comment_record, instruction_record, record_on, record_of}
 use Rattle.records.proofs.OwnRecord.{record_own}
-use Rattle.reader.specs.declared.Answer.TheVariants.{Got, Refused}
-use Rattle.reader.specs.declared.Reading.{Reading}
 use Rattle.reader.specs.Reading.{unread, got, read_judged, reading_at, reading}
+use Rattle.reader.proofs.ReadingUnique.{same_got}
 use Rattle.record_tokens.specs.Tokens.{Words, tokens_of, body_on, comment_body}
 use Rattle.record_tokens.proofs.Operands.{words_drop, words_take}
 use Rattle.writer.specs.Writing.{body_length}
@@ -62,23 +60,18 @@ own_tokens v r size class (first ∷ rest) j is words short =
       record_is = record_own v (first ∷ rest) j ∙ is;
     }
 
-never_got : (why : Refusal) (reading : Reading) (next : ℕ) (r : Record) {P : Type 0} → reading.answer ≡ Refused why → reading ≡ got next r → P
-never_got why reading next r a e =
-    let answers : reading.answer ≡ Got next = ap (λ (x : Reading). x.answer) e in
-    apart (cc)
-
 -- what a reading gives is an instruction's
 module _ (v : Version) (tokens : List ℕ) (at next : ℕ) (r : Record) (words : Words tokens) where
   by_judged : (j : Judged) → length tokens ≤ most_tokens → judged v (drop at tokens) ≡ j → read_judged j at (record_of v (drop at tokens)) ≡ got next r → Own v r
   by_judged (good_instruction size class) few j e =
-      own_tokens v r size class (drop at tokens) j (ap (λ (x : Reading). x.instruction) e) (words_drop at tokens words) (omega (arith, length-drop at tokens))
-  by_judged (bad_instruction x) few j e = never_got _ _ next r refl e
+      own_tokens v r size class (drop at tokens) j (same_got e).1 (words_drop at tokens words) (omega (arith, length-drop at tokens))
+  by_judged (bad_instruction x) few j e = apart (cc)
 
   by_tests : (short there : Bool) → leb (length tokens) most_tokens ≡ short →
       pick short (pick there (read_judged (judged v (drop at tokens)) at (record_of v (drop at tokens))) (unread RUN_OUT (length tokens))) (unread LENGTH 0) ≡ got next r → Own v r
   by_tests true true l e = by_judged (judged v (drop at tokens)) (leb-true (length tokens) most_tokens l) refl e
-  by_tests true false l e = never_got _ _ next r refl e
-  by_tests false there l e = never_got _ _ next r refl e
+  by_tests true false l e = apart (cc)
+  by_tests false there l e = apart (cc)
 
   pub read_own : reading (version_token v) tokens at ≡ got next r → Own v r
   unfolding reading reading_at

@@ -1,4 +1,5 @@
 -- Demand 2: each record that can be written reads back as itself, from the written tokens alone, at place 0.
+use Rattle.std.specs.Prelude.{Ok}
 use mathlib.Core.Path.{◌≡◌, refl}
 use mathlib.Core.Bool.{Bool, true, false}
 use mathlib.Core.List.{List, ◌++◌}
@@ -15,7 +16,6 @@ use Rattle.paper.specs.declared.Version.{Version}
 use Rattle.records.specs.declared.Record.{Record}
 use Rattle.reader.specs.Reading.{got, reading}
 use Rattle.record_tokens.specs.Tokens.{tokens_of}
-use Rattle.writer.specs.declared.Written.TheVariants.{Wrote}
 use Rattle.writer.specs.Buffer.{pasted}
 use Rattle.writer.specs.Writing.{Writable, told_writing, Writes}
 use Rattle.writer.proofs.Readings.{Own, alone_read}
@@ -51,5 +51,5 @@ module _ (version : ℕ) (r : Record) (body buffer : List ℕ) (at next : ℕ) {
       (tokens_read_back y.v r body y.can)
 
   -- what the writer wrote, read alone from place 0, is the record, and nothing is left over
-  pub reads_back_lem : Writes version r body buffer at (told_writing (Wrote next)) after → reading version (take (next - at) (drop at after)) 0 ≡ got (next - at) r
+  pub reads_back_lem : Writes version r body buffer at (told_writing (Ok next)) after → reading version (take (next - at) (drop at after)) 0 ≡ got (next - at) r
   reads_back_lem w = yes_back (said_yes version r body buffer at next w)

@@ -1,6 +1,6 @@
 -- The operands of a row, place by place: their tokens, and whether they fit.
-use mathlib.Core.Path.{◌≡◌}
-use mathlib.Core.Bool.{Bool, true, false, ◌&&◌}
+use mathlib.Core.Path.{◌≡◌, refl}
+use mathlib.Core.Bool.{Bool, true, false, ◌&&◌, ◌||◌}
 use mathlib.Core.List.{List, [], ◌∷◌, ◌++◌}
 use Prim.Native.Nat.{ℕ, suc, ◌+◌, ◌*◌, ◌-◌, ◌/◌, ◌%◌, ◌^◌, ◌≤◌, ◌<◌}
 use native.Mathlib.Nat.{add-zero}
@@ -117,6 +117,11 @@ fits_none left operands p e = rw (e, decoded_zero)
 pub ordered_none : (left : ℕ) → left ≡ 0 → ordered (decoded left) ≡ 0
 unfolding ordered
 ordered_none left e = rw (e, decoded_zero)
+
+-- the predicate's place of a record that is not marked
+pub unmarked : (marked unused : Bool) → pick marked true unused ≡ (marked || unused)
+unmarked true unused = refl
+unmarked false unused = refl
 
 -- one unused place after the other
 module _ (held : ℕ) (operands : List Operand) (six : length operands ≡ operand_count) where

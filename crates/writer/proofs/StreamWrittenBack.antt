@@ -20,7 +20,6 @@ use Rattle.records.specs.Record.{record_of}
 use Rattle.record_tokens.specs.Tokens.{Words, tokens_of, comment_body}
 use Rattle.record_tokens.proofs.Operands.{words_drop}
 use Rattle.record_tokens.proofs.WrittenBack.{written_back}
-use Rattle.writer.specs.declared.Written.TheVariants.{Wrote}
 use Rattle.writer.specs.Buffer.{pasted}
 use Rattle.writer.specs.Writing.{Yielded, ToldWriting, told_writing, Writes, written}
 use Rattle.writer.specs.InOrder.{Piece, pieces_of, WritesAll, all_written, next_written}
@@ -46,7 +45,7 @@ module _ (v : Version) (first : ℕ) (rest : List ℕ) {class : Class} (words : 
       }
 
   chunk_written : (buffer : List ℕ) (at : ℕ) → at + suc (length rest) ≤ length buffer →
-      Writes (version_token v) (record_of v (first ∷ rest)) (comment_body v (first ∷ rest)) buffer at (told_writing (Wrote (at + suc (length rest)))) (pasted buffer at (first ∷ rest))
+      Writes (version_token v) (record_of v (first ∷ rest)) (comment_body v (first ∷ rest)) buffer at (told_writing (Ok (at + suc (length rest)))) (pasted buffer at (first ∷ rest))
   chunk_written buffer at h =
       let own : Writes (version_token v) (record_of v (first ∷ rest)) (comment_body v (first ∷ rest)) buffer at _ _ =
       written (named_back v) (record { yielded = chunk_yielded; agrees = body_agrees v first rest (lawfully v first rest (length rest) class alone) }) (rw chunk_back h) in

@@ -1,4 +1,5 @@
 -- RECORD: the writer's test holds exactly of the records that reading yields in the version, and of a body whose length agrees.
+use Rattle.std.specs.Prelude.{Ok, Err}
 use mathlib.Core.Path.{◌≡◌, refl, sym, ap, ◌∙◌}
 use mathlib.Core.Bool.{Bool, true, false, ◌&&◌}
 use mathlib.Core.List.{List, [], ◌∷◌}
@@ -18,18 +19,14 @@ use Rattle.paper.specs.Judgements.{good_instruction}
 use Rattle.paper.proofs.Bools.{both_left, both_right, apart}
 use Rattle.records.specs.declared.Record.{Record}
 use Rattle.records.specs.Record.{comment_record}
-use Rattle.reader.specs.declared.Answer.{Answer}
-use Rattle.reader.specs.declared.Answer.TheVariants.{Got, Refused}
-use Rattle.reader.specs.declared.Reading.{Reading}
-use Rattle.reader.specs.Reading.{got, reading}
+use Rattle.reader.specs.Reading.{Answer, got, reading}
 use Rattle.record_tokens.specs.Tokens.{Words, comment_token, tokens_of, comment_body}
 use Rattle.record_tokens.proofs.WrittenBack.{written_back}
 use Rattle.record_tokens.proofs.ReadBack.{comment_judged, comment_read}
-use Rattle.writer.specs.Same.{same_record}
 use Rattle.writer.specs.Buffer.{words_of}
 use Rattle.writer.specs.Row.{encoded_tokens}
 use Rattle.writer.specs.Writing.{Yielded, Writable}
-use Rattle.writer.specs.Decided.{longest_comment, yielded_comment, is_got, gives, reads_back, writable}
+use Rattle.writer.specs.Decided.{longest_comment, yielded_comment, gives, reads_back, writable}
 use Rattle.writer.proofs.Paste.{small, words_length}
 use Rattle.writer.proofs.Same.{record_equal, record_own as record_same}
 use Rattle.writer.proofs.Readings.{Own, read_own, alone_read, Lawfully, lawfully, bodiless, comment_only, encoded_own}
@@ -50,21 +47,13 @@ words_same (token ∷ tokens) words =
     cc
 
 -- a reading that gives the record
-unfoldable reading_of : Answer → Record → Reading
-reading_of answer instruction = record { answer = answer; instruction = instruction }
-
-pub record Given (reading : Reading) (r : Record) : Type 0 where
+pub record Given (answer : Answer) (r : Record) : Type 0 where
   pub next : ℕ
-  pub is : reading ≡ got next r
+  pub is : answer ≡ got next r
 
-given_by : (answer : Answer) (i r : Record) → (is_got answer && same_record i r) ≡ true → Given (reading_of answer i) r
-unfolding reading_of
-given_by (Got next) i r h = record { next = next; is = ap (got next) (record_equal i r h) }
-given_by (Refused x) i r h = apart (cc)
-
-given : (reading : Reading) (r : Record) → gives reading r ≡ true → Given reading r
-unfolding reading_of
-given reading r h = given_by reading.answer reading.instruction r h
+given : (answer : Answer) (r : Record) → gives answer r ≡ true → Given answer r
+given (Ok reading) r h = record { next = reading.next; is = ap (got reading.next) (record_equal reading.instruction r h) }
+given (Err refusal) r h = apart (cc)
 
 -- a record that is an instruction's: its tokens are the instruction's own
 module _ (v : Version) (r : Record) (o : Own v r) where

@@ -1,10 +1,9 @@
 -- The records of some chunks, written in order, each with its own body, from a place of the buffer on.
-use Rattle.std.specs.Prelude.{ℕ, List, [], ◌∷◌}
+use Rattle.std.specs.Prelude.{ℕ, List, [], ◌∷◌, Ok}
 use Rattle.paper.specs.declared.Version.{Version}
 use Rattle.records.specs.declared.Record.{Record}
 use Rattle.records.specs.Record.{record_of}
 use Rattle.record_tokens.specs.Tokens.{comment_body}
-use Rattle.writer.specs.declared.Written.TheVariants.{Wrote}
 use Rattle.writer.specs.Writing.{told_writing, Writes}
 
 -- a record and the body that is lent beside it
@@ -22,5 +21,5 @@ pieces_of v (chunk ∷ chunks) = record { instruction = record_of v chunk; body 
 pub data WritesAll (version : ℕ) : List Piece → List ℕ → ℕ → List ℕ → ℕ → Type 0 where
   all_written : {buffer : List ℕ} {at : ℕ} → WritesAll version [] buffer at buffer at
   next_written : {piece : Piece} {pieces : List Piece} {buffer between after : List ℕ} {at next behind : ℕ} →
-      Writes version piece.instruction piece.body buffer at (told_writing (Wrote next)) between →
+      Writes version piece.instruction piece.body buffer at (told_writing (Ok next)) between →
       WritesAll version pieces between next after behind → WritesAll version (piece ∷ pieces) buffer at after behind

@@ -1,5 +1,5 @@
 -- Whether a record's fields are as reading gives them: each within its bits, and zero where its place has none; and what else the code tests.
-use Rattle.std.specs.Prelude.{ℕ, ◌+◌, ◌-◌, ◌^◌, ◌≡◌, Bool, true, false, ◌&&◌, List, [], ◌∷◌, eqb, leb, ltb, length, take, drop, get_or}
+use Rattle.std.specs.Prelude.{ℕ, ◌+◌, ◌-◌, ◌^◌, ◌≡◌, Bool, true, false, ◌&&◌, List, [], ◌∷◌, eqb, leb, ltb, length, take, drop, get_or, Option, Some, None}
 use Rattle.paper.specs.Notation.{pick, bit}
 use Rattle.paper.specs.InstructionToken.{opcode_of, controls_of, is_coissued, comment_opcode, end_opcode, end_token}
 use Rattle.paper.specs.OperandTokens.{is_free}
@@ -84,13 +84,9 @@ abbrev pub is_whole : Judged → ℕ → Bool
 is_whole (good_instruction size class) n = eqb (size + 1) n
 is_whole (bad_instruction r) n = false
 
--- no row takes so many tokens
-abbrev pub misfit : ℕ
-misfit = 14
-
--- tokens stored at the front of a room if a test holds; the next place is another number if it does not
-pub record PutIf (test : Bool) (tokens room : List ℕ) (none next : ℕ) (after : List ℕ) : Type 0 where
-  pub fails : next ≡ none → test ≡ false
-  pub passes : (next ≡ none → ⊥) → test ≡ true
-  pub put : (next ≡ none → ⊥) → Put tokens room 0 next after
+-- tokens stored at the front of a room if a test holds: how many, or none if it does not
+pub record PutIf (test : Bool) (tokens room : List ℕ) (next : Option ℕ) (after : List ℕ) : Type 0 where
+  pub fails : next ≡ None → test ≡ false
+  pub passes : {n : ℕ} → next ≡ Some n → test ≡ true
+  pub put : {n : ℕ} → next ≡ Some n → Put tokens room 0 n after
   pub long : length after ≡ length room

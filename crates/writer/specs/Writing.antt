@@ -1,18 +1,17 @@
 -- Document 01, "Records": "A comment's record holds its length; the writer is lent the body, whose length must agree (0 for any other
 -- record), else RECORD. .. The writer tests VERSION, RECORD, then ROOM; only the named tokens change." RECORD: "record is none that reading
 -- yields in this version". ROOM: "what is to be written does not fit". "A refusal writes nothing into a lent buffer."
-use Rattle.std.specs.Prelude.{ℕ, ◌+◌, ◌≤◌, ◌<◌, ◌≡◌, List, eqb, length, Some, None}
+use Rattle.std.specs.Prelude.{ℕ, ◌+◌, ◌≤◌, ◌<◌, ◌≡◌, List, eqb, length, Some, None, Result, Ok, Err}
 use Rattle.paper.specs.Notation.{pick}
 use Rattle.paper.specs.Versions.{version_token, named}
 use Rattle.paper.specs.Numbers.{number_of}
 use Rattle.paper.specs.InstructionToken.{comment_opcode}
 use Rattle.paper.specs.declared.Version.{Version}
+use Rattle.paper.specs.declared.Reason.{Reason}
 use Rattle.paper.specs.declared.Reason.TheVariants.{Version as VERSION, Room as ROOM, Record as RECORD}
 use Rattle.records.specs.declared.Record.{Record}
 use Rattle.reader.specs.Reading.{got, reading}
 use Rattle.record_tokens.specs.Tokens.{Words, tokens_of}
-use Rattle.writer.specs.declared.Written.{Written}
-use Rattle.writer.specs.declared.Written.TheVariants.{Wrote, Refused}
 use Rattle.writer.specs.Buffer.{pasted}
 
 -- the record is one "that reading yields in this version": there are tokens and a place from which the reader gives it
@@ -32,6 +31,10 @@ pub record Writable (v : Version) (r : Record) (body : List ℕ) : Type 0 where
   pub yielded : Yielded v r
   pub agrees : length body ≡ body_length r
 
+-- the next place, or why nothing was written
+abbrev pub Written : Type 0
+Written = Result ℕ Reason
+
 -- what a writing tells: a number and a position, and the next place
 pub record ToldWriting : Type 0 where
   pub number : ℕ
@@ -40,16 +43,16 @@ pub record ToldWriting : Type 0 where
 
 -- a yes has number 0, a refusal next place 0, and both position 0
 abbrev pub told_writing : Written → ToldWriting
-told_writing (Wrote next) = record { number = 0; position = 0; next = next }
-told_writing (Refused reason) = record { number = number_of reason; position = 0; next = 0 }
+told_writing (Ok next) = record { number = 0; position = 0; next = next }
+told_writing (Err reason) = record { number = number_of reason; position = 0; next = 0 }
 
 -- what the writer tells of a version token, a record, a body, a buffer and a place, and what the buffer holds then: VERSION, RECORD and ROOM,
 -- each only where the ones before it are not given, leave it as it was; a yes changes "only the named tokens"
 pub data Writes (version : ℕ) (r : Record) (body buffer : List ℕ) (at : ℕ) : ToldWriting → List ℕ → Type 0 where
-  unnamed : named version ≡ None → Writes version r body buffer at (told_writing (Refused VERSION)) buffer
+  unnamed : named version ≡ None → Writes version r body buffer at (told_writing (Err VERSION)) buffer
   unwritable : {v : Version} → named version ≡ Some v → (Writable v r body → ⊥) →
-      Writes version r body buffer at (told_writing (Refused RECORD)) buffer
+      Writes version r body buffer at (told_writing (Err RECORD)) buffer
   cramped : {v : Version} → named version ≡ Some v → Writable v r body → length buffer < at + length (tokens_of v r body) →
-      Writes version r body buffer at (told_writing (Refused ROOM)) buffer
+      Writes version r body buffer at (told_writing (Err ROOM)) buffer
   written : {v : Version} → named version ≡ Some v → Writable v r body → at + length (tokens_of v r body) ≤ length buffer →
-      Writes version r body buffer at (told_writing (Wrote (at + length (tokens_of v r body)))) (pasted buffer at (tokens_of v r body))
+      Writes version r body buffer at (told_writing (Ok (at + length (tokens_of v r body)))) (pasted buffer at (tokens_of v r body))

@@ -1,25 +1,37 @@
-use native.Mathlib.Omega.{arith}
-use mathlib.Core.Path.{ap, sym, ◌∙◌}
-use Rattle.paper.specs.Numbers.{told}
+use Rattle.std.proofs.Common.{◌≡◌, Err, ap, sym, ◌∙◌}
+use Rattle.paper.specs.Numbers.{told, refusal}
+use Rattle.paper.specs.declared.Reason.TheVariants.{Length as LENGTH}
 use Rattle.paper.proofs.OneToOne.{same_named}
-use Rattle.byte_checker.proofs.Verdicts.{verdict_odd, verdict_short, verdict_long, verdict_named}
+use Rattle.byte_checker.specs.Bytes.{bytes_verdict}
+use Rattle.byte_checker.proofs.Verdicts.{verdict_odd, verdict_unlaid, verdict_named}
 use Rattle.byte_checker.proofs.check_bytes.Goals as goal
+use Rattle.byte_checker.proofs.check_bytes.Goals.{then-not-is_empty-via-then-not-is_empty, then-not-is_empty-via-else-not-is_empty+then-not-is_laid}
 
-pub returns-then-tokens-gt-MOST_TOKENS : goal.returns-then-tokens-gt-MOST_TOKENS
-returns-then-tokens-gt-MOST_TOKENS c = ap told (c.refused-then-tokens-gt-MOST_TOKENS.ensures ∙ sym (verdict_long c.args.bytes.now (omega arith) (omega arith) (omega arith)))
+pub returns-then-not-is_empty : goal.returns-then-not-is_empty
+returns-then-not-is_empty c =
+    let e = c.as_chunks.ensures in
+    let verdict : bytes_verdict c.args.bytes.now ≡ Err (refusal LENGTH 0) =
+    elim c.then-not-is_empty.branch [
+      | then-not-is_empty-via-then-not-is_empty w ↦
+          verdict_odd c.args.bytes.now _ _ e.front e.front_len e.back_len (sym c.is_empty.ensures ∙ w.if-not-is_empty.true)
+      | then-not-is_empty-via-else-not-is_empty+then-not-is_laid w ↦
+          verdict_unlaid c.args.bytes.now _ _ e.front e.front_len e.back_len (sym c.is_empty.ensures ∙ w.if-not-is_empty.false)
+          (sym w.is_laid.ensures ∙ w.if-not-is_laid.true)
+    ] in
+    rw (c.at.ensures, verdict)
 
-pub returns-in-Known : goal.returns-in-Known
-returns-in-Known c =
-    let named-is = verdict_named c.args.bytes.now (omega arith) (omega arith) (omega arith) in
-    ap told (c.walk_bytes.ensures ∙ sym (named-is ∙ rw (← c.token_at.ensures, ← (same_named _ _ c.version_of-named.ensures), c.in-Known.is)))
+pub returns-in_default : goal.returns-in_default
+returns-in_default c =
+    let e = c.as_chunks.ensures in
+    let verdict =
+    verdict_named c.args.bytes.now _ _ e.front e.front_len e.back_len (sym c.is_empty.ensures ∙ c.if-not-is_empty.false)
+    (sym c.is_laid.ensures ∙ c.if-not-is_laid.false) in
+    rw (c.at-in_default.ensures, verdict, ← c.from_le_bytes.ensures, ← (same_named _ _ c.version_of.ensures), c.in_default.is)
 
-pub returns-in-Unknown : goal.returns-in-Unknown
-returns-in-Unknown c =
-    let named-is = verdict_named c.args.bytes.now (omega arith) (omega arith) (omega arith) in
-    ap told (c.refused-in-Unknown.ensures ∙ sym (named-is ∙ rw (← c.token_at.ensures, ← (same_named _ _ c.version_of-named.ensures), c.in-Unknown.is)))
-
-pub returns-then-bytes-ne0 : goal.returns-then-bytes-ne0
-returns-then-bytes-ne0 c = ap told (c.refused.ensures ∙ sym (verdict_odd c.args.bytes.now (λ e. c.if-bytes-ne0.true (omega arith))))
-
-pub returns-then-tokens-lt-FEWEST_TOKENS : goal.returns-then-tokens-lt-FEWEST_TOKENS
-returns-then-tokens-lt-FEWEST_TOKENS c = ap told (c.refused-then-tokens-lt-FEWEST_TOKENS.ensures ∙ sym (verdict_short c.args.bytes.now (omega arith) (omega arith)))
+pub returns : goal.returns
+returns c =
+    let e = c.as_chunks.ensures in
+    let verdict =
+    verdict_named c.args.bytes.now _ _ e.front e.front_len e.back_len (sym c.is_empty.ensures ∙ c.if-not-is_empty.false)
+    (sym c.is_laid.ensures ∙ c.if-not-is_laid.false) in
+    ap told (c.walk_bytes.ensures ∙ sym (verdict ∙ rw (← c.from_le_bytes.ensures, ← (same_named _ _ c.version_of.ensures), c.in-Some.is)))

@@ -1,23 +1,14 @@
-use mathlib.Core.Path.{sym}
+use mathlib.Core.Path.{sym, ◌∙◌}
 use native.Mathlib.Omega.{arith}
-use Rattle.operands.proofs.OperandAt.{relative_none_lem}
-use Rattle.door.proofs.Taking.{relative_took, relative_refused}
+use Rattle.door.proofs.Taking.{relative_took}
 use Rattle.door.proofs.take_relative.Goals as goal
 
-pub returns-then-behind-at : goal.returns-then-behind-at
-returns-then-behind-at c = (
+pub returns-then-is_ok : goal.returns-then-is_ok
+returns-then-is_ok c = (
   omega arith,
   λ offset.
       let g = c.args in
-      rw (relative_none_lem g.version offset g.at g.behind.now c.if-behind-at.true),
-)
-
-pub returns-then-judge_relative-eq0 : goal.returns-then-judge_relative-eq0
-returns-then-judge_relative-eq0 c = (
-  omega arith,
-  λ offset.
-      let g = c.args in
-      sym (relative_took g.version offset g.at _ g.behind.now c.if-behind-at.false c.judge_relative.ensures c.if-judge_relative-eq0.true),
+      rw (relative_took g.version offset g.at _ g.behind.now c.if-behind-at.false c.judge_relative.ensures, sym c.is_ok.ensures.value ∙ c.if-is_ok.true),
 )
 
 pub returns : goal.returns
@@ -25,5 +16,5 @@ returns c = (
   omega arith,
   λ offset.
       let g = c.args in
-      sym (relative_refused g.version offset g.at _ g.behind.now c.if-behind-at.false c.judge_relative.ensures c.if-judge_relative-eq0.false),
+      rw (relative_took g.version offset g.at _ g.behind.now c.if-behind-at.false c.judge_relative.ensures, sym c.is_ok.ensures.value ∙ c.if-is_ok.false),
 )

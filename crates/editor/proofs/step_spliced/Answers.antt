@@ -1,4 +1,5 @@
-use mathlib.Core.Path.{refl, ◌∙◌}
+use Prim.Native.Nat.{◌+◌, ◌-◌}
+use mathlib.Core.Path.{◌≡◌, ◌∙◌}
 use native.Mathlib.Omega.{arith}
 use Rattle.walk.proofs.Stretching.{pass_one}
 use Rattle.editor.proofs.Tokens.{step_in_old, step_in_run, step_gathered}
@@ -20,5 +21,5 @@ pub returns : goal.returns
 returns c =
     let g = c.args in
     pass_one g.version _ g.state 0 _ c.pass-2.result (omega arith) (omega arith) c.pass-2.ensures
-    ∙ step_gathered g.run.now g.old.now g.j g.i (omega arith) g.version g.state (omega arith) _ c.shown_of-shown.result _ (omega arith) refl c.shown_of-shown.ensures
-    c.gather.ensures
+    ∙ step_gathered g.run.now g.old.now g.j g.i (omega arith) g.version g.state (omega arith) c.min-more.result _ _ _ (omega arith) (omega arith) (omega arith)
+    c.min-more.ensures c.copy_from_slice.ensures.after (let size : g.j + c.min-more.result - g.j ≡ c.min-more.result = omega arith in rw size at c.copy_from_slice-2.ensures.after)

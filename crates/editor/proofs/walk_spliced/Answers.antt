@@ -1,13 +1,16 @@
 use Prim.Native.Nat.{ℕ, ◌+◌, ◌-◌, ◌≤◌, ◌<◌}
 use mathlib.Core.Path.{◌≡◌, ap, sym, subst, ◌∙◌}
-use mathlib.Core.Bool.{true}
+use mathlib.Core.Bool.{true, false, ◌&&◌, beq}
 use mathlib.Core.List.{List}
 use native.Mathlib.Omega.{arith}
 use lib.ListN.{length}
-use borrow.Author.Tests.{ltb-false}
+use lib.Dec.{eqb}
+use borrow.Author.Tests.{ltb-false, eq-eqb, ne_eqb}
+use Rattle.std.proofs.lemmas.Result.{err_from_is_err_and}
 use Rattle.paper.specs.Stream.{most_tokens}
 use Rattle.paper.specs.declared.Version.{Version}
 use Rattle.paper.specs.Judgements.{Verdict}
+use Rattle.paper.proofs.Bools.{and_false}
 use Rattle.paper.proofs.OneToOne.{same_verdict}
 use Rattle.edit.specs.Edit.{splice, new_length, on_verdict}
 use Rattle.edit.proofs.Prefix.{splice_length}
@@ -20,8 +23,8 @@ use Rattle.walk.proofs.Comes.{left_to, comes_on, comes_turn}
 use Rattle.editor.specs.Found.{Between, InSplice}
 use Rattle.editor.proofs.Prefix.{stands_spliced}
 use Rattle.editor.proofs.Meeting.{Unmet, turn_joined, turn_unmet, turn_last}
-use borrow.Author.Rules.{rules}
 use Rattle.editor.proofs.walk_spliced.Goals as goal
+use Rattle.editor.proofs.walk_spliced.Goals.{else-state-end-via-then-state-end+then-state-last+else-state-last-2, else-state-end-via-then-state-end+else-state-last, else-state-end-via-else-state-end}
 
 -- a turn of the loop: it begins where the walk of the splice stands
 module _
@@ -71,27 +74,25 @@ pub loop-version-init : goal.loop-version-init
 loop-version-init c =
     let g = c.args in
     let b = c.requires.0 in (
-      search rules,
       (stands_spliced g.version g.old.now g.last.at g.run.now g.first b.from b.order b.inside, omega arith),
       λ off. absurd (omega (arith, ltb-false g.first.at (g.first.at + length g.run.now + 1) off)),
     )
 
-pub returns-then-state-end : goal.returns-then-state-end
-returns-then-state-end c =
+pub returns-then-state-last-2 : goal.returns-then-state-last-2
+returns-then-state-last-2 c =
     let l = c.loop-version in
     let g = c.args in
     let h =
-    stands g.version g.old.now g.run.now g.first g.last c.requires.0 c.requires.1 c.requires.2 l.step l.invariant.1 (sym c.goes_on.ensures ∙ c.loop-version-test.true) in
-    turn_joined g.version g.old.now g.first g.last g.run.now c.requires.0 l.step.state h.0 c.if-state-end.true
+    stands g.version g.old.now g.run.now g.first g.last c.requires.0 c.requires.1 c.requires.2 l.step l.invariant.0 (sym c.goes_on.ensures ∙ c.loop-version-test.true) in
+    turn_joined g.version g.old.now g.first g.last g.run.now c.requires.0 l.step.state h.0
+    (rw (eq-eqb _ _ c.if-state-end.true, eq-eqb _ _ c.if-state-last.true) c.if-state-last-2.true)
 
 pub step_spliced-step-requires : goal.step_spliced-step-requires
 step_spliced-step-requires c =
     let l = c.loop-version in
-    let g = c.args in (
-      in_splice g.version g.old.now g.run.now g.first g.last c.requires.0 c.requires.1 c.requires.2 l.step l.invariant.1
-          (sym c.goes_on.ensures ∙ c.loop-version-test.true),
-      omega arith,
-    )
+    let g = c.args in
+    in_splice g.version g.old.now g.run.now g.first g.last c.requires.0 c.requires.1 c.requires.2 l.step l.invariant.0
+    (sym c.goes_on.ensures ∙ c.loop-version-test.true)
 
 pub returns : goal.returns
 returns c =
@@ -99,9 +100,20 @@ returns c =
     let g = c.args in
     let whole : ℕ = g.first.at + length g.run.now + (length g.old.now - g.last.at) in
     let verdict = same_verdict c.verdict_of.result (verdict_of l.step whole) c.verdict_of.ensures in
-    c.answer_of.ensures
-    ∙ ap (λ (x : Verdict). on_verdict x whole) verdict
-    ∙ turn_last g.version g.old.now g.first g.last g.run.now c.requires.0 l.step l.invariant.1 l.invariant.2 (sym c.goes_on.ensures ∙ c.loop-version-test.false)
+    let read =
+    turn_last g.version g.old.now g.first g.last g.run.now c.requires.0 l.step l.invariant.0 l.invariant.1 (sym c.goes_on.ensures ∙ c.loop-version-test.false) in
+    ap (λ (x : Verdict). on_verdict x whole) (sym c.in_ok-verdict_of.was ∙ verdict) ∙ read
+
+pub returns-in_err-verdict_of : goal.returns-in_err-verdict_of
+returns-in_err-verdict_of c =
+    let l = c.loop-version in
+    let g = c.args in
+    let whole : ℕ = g.first.at + length g.run.now + (length g.old.now - g.last.at) in
+    let verdict = same_verdict c.verdict_of.result (verdict_of l.step whole) c.verdict_of.ensures in
+    let p = err_from_is_err_and c.from_residual.result c.from_residual.ensures.1 in
+    let read =
+    turn_last g.version g.old.now g.first g.last g.run.now c.requires.0 l.step l.invariant.0 l.invariant.1 (sym c.goes_on.ensures ∙ c.loop-version-test.false) in
+    rw (p.1, p.2) (ap (λ (x : Verdict). on_verdict x whole) (sym c.in_err-verdict_of.was ∙ verdict) ∙ read)
 
 pub overflow_add-end : goal.overflow_add-end
 overflow_add-end c = let b = c.requires.0 in omega (arith, b.order, b.inside)
@@ -116,7 +128,7 @@ pub loop-version-smaller : goal.loop-version-smaller
 loop-version-smaller c =
     let l = c.loop-version in
     let g = c.args in
-    (turned g.version g.old.now g.run.now g.first g.last c.requires.0 c.requires.1 c.requires.2 l.step l.invariant.1 (sym c.goes_on.ensures ∙ c.loop-version-test.true)
+    (turned g.version g.old.now g.run.now g.first g.last c.requires.0 c.requires.1 c.requires.2 l.step l.invariant.0 (sym c.goes_on.ensures ∙ c.loop-version-test.true)
     c.step_spliced-step.result c.step_spliced-step.ensures).0
 
 pub loop-version-preserved : goal.loop-version-preserved
@@ -124,10 +136,15 @@ loop-version-preserved c =
     let l = c.loop-version in
     let g = c.args in
     let on : goes_on l.step (g.first.at + length g.run.now + (length g.old.now - g.last.at)) ≡ true = sym c.goes_on.ensures ∙ c.loop-version-test.true in
-    let h = stands g.version g.old.now g.run.now g.first g.last c.requires.0 c.requires.1 c.requires.2 l.step l.invariant.1 on in (
-      omega arith,
-      (turned g.version g.old.now g.run.now g.first g.last c.requires.0 c.requires.1 c.requires.2 l.step l.invariant.1 on c.step_spliced-step.result
+    let h = stands g.version g.old.now g.run.now g.first g.last c.requires.0 c.requires.1 c.requires.2 l.step l.invariant.0 on in
+    let other : eqb l.step.state.at (g.first.at + length g.run.now) && (eqb l.step.state.kinds g.last.kinds && beq l.step.state.phased g.last.phased) ≡ false =
+    elim c.else-state-end.branch [
+      | else-state-end-via-then-state-end+then-state-last+else-state-last-2 w ↦ rw (w.if-state-last-2.false, and_false, and_false)
+      | else-state-end-via-then-state-end+else-state-last w ↦ rw (ne_eqb _ _ w.if-state-last.false, and_false)
+      | else-state-end-via-else-state-end w ↦ rw (ne_eqb _ _ w.if-state-end.false)
+    ] in (
+      (turned g.version g.old.now g.run.now g.first g.last c.requires.0 c.requires.1 c.requires.2 l.step l.invariant.0 on c.step_spliced-step.result
           c.step_spliced-step.ensures).1,
       subst (Unmet g.version g.old.now g.first g.last g.run.now) (sym c.step_spliced-step.ensures)
-          (turn_unmet g.version g.old.now g.first g.last g.run.now c.requires.0 l.step l.invariant.2 h.0 h.2 c.if-state-end.false),
+          (turn_unmet g.version g.old.now g.first g.last g.run.now c.requires.0 l.step l.invariant.1 h.0 h.2 other),
     )

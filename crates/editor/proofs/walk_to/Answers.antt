@@ -53,8 +53,9 @@ pub returns : goal.returns
 returns c =
     let l = c.loop-version in
     let g = c.args in
-    found_is g.version g.tokens.now g.target l.step l.invariant.0 (sym c.goes_on.ensures ∙ c.loop-version-test.false) l.invariant.1
-    c.goes_on-there.result (sym c.goes_on-there.ensures)
+    rw c.then_some.ensures
+    (found_is g.version g.tokens.now g.target l.step l.invariant.0 (sym c.goes_on.ensures ∙ c.loop-version-test.false) l.invariant.1
+    c.goes_on-there.result (sym c.goes_on-there.ensures))
 
 pub loop-version-init : goal.loop-version-init
 loop-version-init c = ((c.requires.0, omega arith), λ off. absurd (omega (arith, ltb-false c.args.from.at (c.args.target + 1) off, c.requires)))

@@ -52,17 +52,17 @@ loop-left-preserved c =
       rw c.taken_of-at.ensures (operands_on g.version l.left l.at g.behind.now (omega arith) s.loop-left-test.true _ took ∙ l.invariant.3),
     )
 
-pub returns-then-at-size : goal.returns-then-at-size
-returns-then-at-size c =
+pub returns-then-at-behind : goal.returns-then-at-behind
+returns-then-at-behind c =
     let g = c.args in
     let l = c.loop-left in
     ap operands_number
-    (sym (operands_fit g.version l.left (l.at + 1) l.at g.behind.now c.loop-left-test.false c.if-at-size.true) ∙ l.invariant.3)
+    (sym (operands_fit g.version l.left (l.at + 1) l.at g.behind.now c.loop-left-test.false c.if-at-behind.true) ∙ l.invariant.3)
 
 pub returns : goal.returns
 returns c =
     let g = c.args in
     let l = c.loop-left in
-    c.refused.ensures
+    c.refused_first.ensures
     ∙ ap operands_number
-    (sym (operands_over g.version l.left (l.at + 1) l.at g.behind.now c.loop-left-test.false l.invariant.0 c.if-at-size.false) ∙ l.invariant.3)
+    (sym (operands_over g.version l.left (l.at + 1) l.at g.behind.now c.loop-left-test.false l.invariant.0 c.if-at-behind.false) ∙ l.invariant.3)

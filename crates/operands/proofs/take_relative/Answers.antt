@@ -1,25 +1,28 @@
-use mathlib.Core.Path.{refl}
+use mathlib.Core.Path.{◌≡◌, refl, sym, ap, ◌∙◌}
 use Prim.Native.Nat.{◌+◌}
 use native.Mathlib.Omega.{arith}
-use borrow.Author.Tests.{ne_eqb}
+use lib.ListN.{get_or}
+use Rattle.paper.specs.Places.{relative}
 use Rattle.places.proofs.Places.{relative_place}
-use Rattle.operands.proofs.OperandAt.{relative_none_lem, relative_number}
+use Rattle.tokens.specs.Brief.{brief}
+use Rattle.operands.proofs.OperandAt.{relative_number}
 use Rattle.operands.proofs.take_relative.Goals as goal
 
-pub returns-then-behind-at : goal.returns-then-behind-at
-returns-then-behind-at c =
-    let g = c.args in
-    rw (relative_none_lem g.version (g.at + 1) g.at g.behind.now c.if-behind-at.true) c.refused.ensures
-
-pub returns-then-told-eq0 : goal.returns-then-told-eq0
-returns-then-told-eq0 c =
-    let g = c.args in
-    rw (relative_number g.version (g.at + 1) g.at _ g.behind.now c.if-behind-at.false c.judge_relative-told.ensures, c.if-told-eq0.true) refl
-
 pub refused_at-requires : goal.refused_at-requires
-refused_at-requires c = (rw relative_place c.judge_relative-told.ensures, c.if-told-eq0.false, omega arith)
+refused_at-requires c = (rw relative_place (sym c.judge_relative.ensures ∙ c.in-Err.is), omega arith)
 
-pub returns : goal.returns
-returns c =
+pub returns-in-Ok : goal.returns-in-Ok
+returns-in-Ok c =
     let g = c.args in
-    rw (relative_number g.version (g.at + 1) g.at _ g.behind.now c.if-behind-at.false c.judge_relative-told.ensures, ne_eqb _ _ c.if-told-eq0.false) (rw relative_place at c.refused_at.ensures)
+    let there = c.in-Some.ensures.lookup.3 in
+    let told : c.judge_relative.result ≡ brief g.version relative (get_or g.behind.now g.at 0) =
+    c.judge_relative.ensures ∙ ap (brief g.version relative) (there.1 0) in
+    rw (relative_number g.version (g.at + 1) g.at _ g.behind.now there.0 told, c.in-Ok.is) refl
+
+pub returns-in-Err : goal.returns-in-Err
+returns-in-Err c =
+    let g = c.args in
+    let there = c.in-Some.ensures.lookup.3 in
+    let told : c.judge_relative.result ≡ brief g.version relative (get_or g.behind.now g.at 0) =
+    c.judge_relative.ensures ∙ ap (brief g.version relative) (there.1 0) in
+    rw (relative_number g.version (g.at + 1) g.at _ g.behind.now there.0 told, c.in-Err.is) (rw (relative_place, there.1 0) at c.refused_at.ensures)

@@ -1,5 +1,4 @@
 use mathlib.Core.Path.{◌≡◌, sym, ◌∙◌}
-use mathlib.Core.Bool.{true, false}
 use native.Mathlib.Omega.{arith}
 use borrow.Author.Tests.{le-ltb}
 use Rattle.paper.specs.Numbers.{reason_by}
@@ -11,14 +10,13 @@ use Rattle.reader.proofs.read_at.Goals as goal
 
 pub returns-then-tokens-at : goal.returns-then-tokens-at
 unfolding reading_at
-returns-then-tokens-at c = rw (le-ltb _ _ c.if-tokens-at.true) c.refused_at.ensures
+returns-then-tokens-at c = rw (le-ltb _ _ c.if-tokens-at.true, c.at.ensures)
 
 pub returns-then-is_refused : goal.returns-then-is_refused
 returns-then-is_refused c =
-    let why : c.reason_of-reason.result ≡ reason_by (number_in c.judge_at-told.result) = same_reason _ _ c.reason_of-reason.ensures in
+    let why : c.reason_of.result ≡ reason_by (number_in c.judge_at-told.result) = same_reason _ _ c.reason_of.ensures in
     let refused = reads_refused c.args.version c.args.tokens.now c.args.at c.judge_at-told.result c.if-tokens-at.false c.judge_at-told.ensures (sym c.is_refused.ensures ∙ c.if-is_refused.true) in
-    rw (refused.reads, ← why, ← c.bit_of-detail.ensures, ← c.position_of.ensures)
-    c.refused_at-then-is_refused.ensures
+    rw (refused.reads, why, c.bit_of.ensures, c.position_of.ensures)
 
 pub slice_bounds-read_record-end : goal.slice_bounds-read_record-end
 slice_bounds-read_record-end c =

@@ -13,6 +13,7 @@ use Rattle.records.specs.declared.Operand.{Operand}
 use Rattle.records.specs.Record.{width_at, operand_at, in_order, padded, array_of, no_operand}
 use Rattle.records.specs.ByClass.{ReadableRow}
 use Rattle.records.proofs.Filled.{Left, none_left, first_there, next_left, first_read, no_row_lem, opening_there, predicate_there, rest_left, row_read}
+use Rattle.records.proofs.Unused.{all_zero}
 use Rattle.records.proofs.read_operands.Goals as goal
 
 -- what is known where some operands are read: the row that is left from a place of the tokens on, and the array so far
@@ -55,7 +56,7 @@ module _ {row : ℕ} {predicated : Bool} {behind : List ℕ} {operands : List Op
 pub returns-then-row-eq0 : goal.returns-then-row-eq0
 returns-then-row-eq0 c =
     let g = c.args in
-    rw (no_row_lem g.row g.predicated g.behind.now (omega arith) c.requires c.if-row-eq0.true, c.no_operand-none.ensures)
+    rw (no_row_lem g.row g.predicated g.behind.now (omega arith) c.requires c.if-row-eq0.true, all_zero c.default-none.result c.default-none.ensures)
 
 pub read_operand-first-requires : goal.read_operand-first-requires
 read_operand-first-requires c =
@@ -71,7 +72,7 @@ pub returns-then-left-eq0 : goal.returns-then-left-eq0
 returns-then-left-eq0 c =
     let g = c.args in
     let s1 = begun g.row g.predicated g.behind.now _ _ _ _ (omega arith) c.requires c.if-row-eq0.false c.read_operand-first.ensures c.read_predicate-predicate.ensures in
-    rw (done s1 c.if-left-eq0.true, c.no_operand-none.ensures)
+    rw (done s1 c.if-left-eq0.true, all_zero c.default-none.result c.default-none.ensures)
 
 pub read_operand-second-requires : goal.read_operand-second-requires
 read_operand-second-requires c =
@@ -84,7 +85,7 @@ returns-then-left-eq0-2 c =
     let g = c.args in
     let s1 = begun g.row g.predicated g.behind.now _ _ _ _ (omega arith) c.requires c.if-row-eq0.false c.read_operand-first.ensures c.read_predicate-predicate.ensures in
     let s2 = onward s1 c.if-left-eq0.false _ _ c.read_operand-second.ensures in
-    rw (done s2 c.if-left-eq0-2.true, c.no_operand-none.ensures)
+    rw (done s2 c.if-left-eq0-2.true, all_zero c.default-none.result c.default-none.ensures)
 
 pub read_operand-third-requires : goal.read_operand-third-requires
 read_operand-third-requires c =
@@ -99,7 +100,7 @@ returns-then-left-eq0-3 c =
     let s1 = begun g.row g.predicated g.behind.now _ _ _ _ (omega arith) c.requires c.if-row-eq0.false c.read_operand-first.ensures c.read_predicate-predicate.ensures in
     let s2 = onward s1 c.if-left-eq0.false _ _ c.read_operand-second.ensures in
     let s3 = onward s2 c.if-left-eq0-2.false _ _ c.read_operand-third.ensures in
-    rw (done s3 c.if-left-eq0-3.true, c.no_operand-none.ensures)
+    rw (done s3 c.if-left-eq0-3.true, all_zero c.default-none.result c.default-none.ensures)
 
 pub read_operand-fourth-requires : goal.read_operand-fourth-requires
 read_operand-fourth-requires c =
@@ -116,7 +117,7 @@ returns-then-left-eq0-4 c =
     let s2 = onward s1 c.if-left-eq0.false _ _ c.read_operand-second.ensures in
     let s3 = onward s2 c.if-left-eq0-2.false _ _ c.read_operand-third.ensures in
     let s4 = onward s3 c.if-left-eq0-3.false _ _ c.read_operand-fourth.ensures in
-    rw (done s4 c.if-left-eq0-4.true, c.no_operand-none.ensures)
+    rw (done s4 c.if-left-eq0-4.true, all_zero c.default-none.result c.default-none.ensures)
 
 pub read_operand-fifth-requires : goal.read_operand-fifth-requires
 read_operand-fifth-requires c =

@@ -1,7 +1,6 @@
 use mathlib.Core.Path.{◌≡◌, refl}
 use mathlib.Core.List.{List}
 use Prim.Native.Nat.{ℕ}
-use native.Mathlib.Omega.{arith}
 use Rattle.paper.specs.Places.{predicate}
 use Rattle.places.specs.Places.{place_by}
 use Rattle.records.specs.Record.{width_at}
@@ -22,6 +21,3 @@ pub returns-then-predicated : goal.returns-then-predicated
 returns-then-predicated c =
     let e = c.read_operand.ensures in
     rw c.if-predicated.true (rw is_predicate at e.0, rw (is_predicate, one _) at e.1)
-
-pub returns : goal.returns
-returns c = rw c.if-predicated.false (c.no_operand-operand.ensures, omega arith)

@@ -1,4 +1,4 @@
-use mathlib.Core.Path.{◌≡◌, sym, ap, ◌∙◌}
+use mathlib.Core.Path.{◌≡◌, ap, ◌∙◌}
 use Prim.Native.Nat.{ℕ}
 use Rattle.paper.specs.declared.Version.{Version}
 use Rattle.paper.specs.InstructionToken.{opcode_of}
@@ -18,25 +18,30 @@ returns-then-class-eq-COMMENT c = rw (eq-eqb _ _ c.if-class-eq-COMMENT.true, ←
 pub returns-then-class-eq-END : goal.returns-then-class-eq-END
 returns-then-class-eq-END c = rw (ne_eqb _ _ c.if-class-eq-COMMENT.false, eq-eqb _ _ c.if-class-eq-END.true) c.empty_record-then-class-eq-END.ensures
 
-pub bare_record-requires : goal.bare_record-requires
-bare_record-requires c =
+pub unplaced_operands-requires : goal.unplaced_operands-requires
+unplaced_operands-requires c =
     let g = c.args in
     let row = row_told g.version g.first _ _ _ c.opcode_of.ensures c.shape_of-shape.ensures c.places_in-row.ensures in
-    rw (ne_eqb _ _ c.if-class-eq-COMMENT.false, ne_eqb _ _ c.if-class-eq-END.false, bare_row g.version g.first (sym row ∙ c.if-row-eq0.true)) at c.requires
+    rw (ne_eqb _ _ c.if-class-eq-COMMENT.false, ne_eqb _ _ c.if-class-eq-END.false, bare_row g.version g.first (rw row at c.if-predicated-row.true)) at c.requires
 
-pub returns-then-row-eq0 : goal.returns-then-row-eq0
-returns-then-row-eq0 c =
+pub returns-then-predicated-row : goal.returns-then-predicated-row
+returns-then-predicated-row c =
     let g = c.args in
     let row = row_told g.version g.first _ _ _ c.opcode_of.ensures c.shape_of-shape.ensures c.places_in-row.ensures in
-    rw (ne_eqb _ _ c.if-class-eq-COMMENT.false, ne_eqb _ _ c.if-class-eq-END.false, bare_row g.version g.first (sym row ∙ c.if-row-eq0.true))
-    c.bare_record.ensures
+    rw (
+      ne_eqb _ _ c.if-class-eq-COMMENT.false,
+      ne_eqb _ _ c.if-class-eq-END.false,
+      bare_row g.version g.first (rw row at c.if-predicated-row.true),
+      ← c.unplaced_operands.ensures,
+    )
+    c.instruction_record.ensures
 
-pub instruction_record-requires : goal.instruction_record-requires
-instruction_record-requires c =
+pub read_operands-requires : goal.read_operands-requires
+read_operands-requires c =
     let g = c.args in
     let row = row_told g.version g.first _ _ _ c.opcode_of.ensures c.shape_of-shape.ensures c.places_in-row.ensures in
     rw row
-    (row_readable g.version g.first (λ e. c.if-row-eq0.false (row ∙ e))
+    (row_readable g.version g.first (rw row at c.if-predicated-row.false)
     (rw (ne_eqb _ _ c.if-class-eq-COMMENT.false, ne_eqb _ _ c.if-class-eq-END.false) at c.requires))
 
 pub returns : goal.returns
@@ -46,7 +51,8 @@ returns c =
     rw (
       ne_eqb _ _ c.if-class-eq-COMMENT.false,
       ne_eqb _ _ c.if-class-eq-END.false,
-      row_is g.version g.first (λ e. c.if-row-eq0.false (row ∙ e)),
+      row_is g.version g.first (rw row at c.if-predicated-row.false),
       ← row,
+      ← c.read_operands.ensures,
     )
-    c.instruction_record.ensures
+    c.instruction_record-2.ensures

@@ -1,4 +1,4 @@
-use Prim.Native.Nat.{◌+◌, ◌*◌, ◌-◌, ◌≤◌}
+use Prim.Native.Nat.{◌+◌, ◌*◌, ◌≤◌}
 use mathlib.Core.Path.{◌≡◌}
 use lib.ListN.{length, drop, get_or}
 use Rattle.places.specs.Places.{decoded}
@@ -11,21 +11,18 @@ use Rattle.writer.proofs.put_row.Given as goal
 
 abbrev pub invariant-loop-left : goal.invariant-loop-left
 invariant-loop-left l =
+    let operands = l.instruction.operands in
+    let p = get_or operands predicate_slot no_operand in
     (l.left ≤ l.row)
     × (length l.room ≡ length l.initial.room)
     × (l.held + length (decoded l.left) ≤ operand_count)
     × (l.next + 2 * length (decoded l.left) ≤ 2 * operand_count)
-    × Rest (row_tokens (decoded l.row) l.instruction.operands (get_or l.instruction.operands predicate_slot no_operand)) l.initial.room
-    (row_tokens (decoded l.left) (drop l.held l.instruction.operands) (get_or l.instruction.operands predicate_slot no_operand)) l.next l.room
-    × (row_fits (decoded l.row) l.instruction.operands (get_or l.instruction.operands predicate_slot no_operand) ≡
-    row_fits (decoded l.left) (drop l.held l.instruction.operands) (get_or l.instruction.operands predicate_slot no_operand))
+    × Rest (row_tokens (decoded l.row) operands p) l.initial.room (row_tokens (decoded l.left) (drop l.held operands) p) l.next l.room
+    × (row_fits (decoded l.row) operands p ≡ row_fits (decoded l.left) (drop l.held operands) p)
     × (ordered (decoded l.row) ≡ l.held + ordered (decoded l.left))
 
 abbrev pub decreases-loop-left : goal.decreases-loop-left
 decreases-loop-left l = l.left
 
-abbrev pub invariant-loop-held : goal.invariant-loop-held
-invariant-loop-held l = unused_from l.initial.held l.instruction.operands ≡ unused_from l.held l.instruction.operands
-
-abbrev pub decreases-loop-held : goal.decreases-loop-held
-decreases-loop-held l = predicate_slot - l.held
+abbrev pub invariant-loop-slot : goal.invariant-loop-slot
+invariant-loop-slot l = unused_from l.held l.instruction.operands ≡ unused_from l.slot l.instruction.operands

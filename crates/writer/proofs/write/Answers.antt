@@ -4,13 +4,12 @@ use Rattle.writer.specs.Writing.{unnamed}
 use Rattle.writer.proofs.Exactly.{known_writes}
 use Rattle.writer.proofs.write.Goals as goal
 
-pub returns-in-Known : goal.returns-in-Known
-returns-in-Known c =
+pub returns : goal.returns
+returns c =
     let g = c.args in
-    let n = sym (same_named _ _ c.version_of-named.ensures) ∙ c.in-Known.is in
+    let n = sym (same_named _ _ c.version_of.ensures) ∙ c.in-Some.is in
     rw (c.write_known.ensures.0, c.write_known.ensures.1)
     (known_writes g.version g.instruction g.body.now g.buffer.now g.at _ n)
 
-pub returns-in-Unknown : goal.returns-in-Unknown
-returns-in-Unknown c =
-    unnamed (sym (same_named _ _ c.version_of-named.ensures) ∙ c.in-Unknown.is)
+pub returns-in_default : goal.returns-in_default
+returns-in_default c = unnamed (sym (same_named _ _ c.version_of.ensures) ∙ c.in_default.is)

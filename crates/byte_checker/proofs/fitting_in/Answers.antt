@@ -1,8 +1,0 @@
-use borrow.Author.Tests.{lt-ltb, le-ltb}
-use Rattle.byte_checker.proofs.fitting_in.Goals as goal
-
-pub returns-then-room-n : goal.returns-then-room-n
-returns-then-room-n c = rw (lt-ltb _ _ c.if-room-n.true)
-
-pub returns : goal.returns
-returns c = rw (le-ltb _ _ c.if-room-n.false)
