@@ -3,16 +3,17 @@
 
 mod rows;
 
-ghost use Rattle.std.specs.Prelude.{◌≡◌};
+ghost use Rattle.std.specs.Prelude.{◌≡◌, ◌<◌};
 ghost use Rattle.paper.specs.Notation.{pick};
 ghost use Rattle.paper.specs.Versions.{has_sizes};
 ghost use Rattle.paper.specs.declared.Version.TheVariants.{V1, P14};
 ghost use Rattle.shapes.specs.Shape.{shape_of};
-ghost use Rattle.first_opcodes.specs.Rows.{early_row, early_rank};
+ghost use Rattle.first_opcodes.specs.Rows.{early_row, early_shape};
 
 use paper::Version;
 
 // vs_1_1
+#[tactic(auto, using(crate::proofs::Tables::no_vertex), unfolding(paper::specs::FirstVersions::first_rows, paper::specs::Places::entry_of, paper::specs::Blocks::class_of, paper::specs::Blocks::classes, shapes::specs::Shape::shape_of))]
 fn vertex_shape(opcode: u32) -> u64
     ensures { result ≡ shape_of V1 opcode }
 {
@@ -50,6 +51,7 @@ fn vertex_shape(opcode: u32) -> u64
 }
 
 // ps_1_1 to ps_1_3: a shape, and which of the first two have it
+#[tactic(auto, using(crate::proofs::Tables::no_early), unfolding(paper::specs::FirstVersions::first_rows, paper::specs::Places::entry_of, paper::specs::Blocks::class_of, paper::specs::Blocks::classes, shapes::specs::Shape::shape_of, crate::specs::Rows::early_row))]
 fn early_row(opcode: u32) -> u64
     ensures { result ≡ early_row opcode }
 {
@@ -89,6 +91,7 @@ fn early_row(opcode: u32) -> u64
 }
 
 // ps_1_4
+#[tactic(auto, using(crate::proofs::Tables::no_late), unfolding(paper::specs::FirstVersions::first_rows, paper::specs::Places::entry_of, paper::specs::Blocks::class_of, paper::specs::Blocks::classes, shapes::specs::Shape::shape_of))]
 fn late_shape(opcode: u32) -> u64
     ensures { result ≡ shape_of P14 opcode }
 {
@@ -115,44 +118,29 @@ fn late_shape(opcode: u32) -> u64
     }
 }
 
-// Which bit of a row is the version's, of the three that have one table; another number in any other version.
-fn early_rank(version: Version) -> u32
-    ensures { result ≡ early_rank version }
+// The same for the one of the three whose bit of a row this is.
+fn early_shape(rank: u32, opcode: u32) -> u64
+    requires { rank < 3 }
+    ensures { result ≡ early_shape (early_row opcode) rank }
 {
-    match version {
-        Version::P11 => 0,
-        Version::P12 => 1,
-        Version::P13 => 2,
-        Version::P14 => rows::OTHER,
-        Version::V1 => rows::OTHER,
-        Version::V2 => rows::OTHER,
-        Version::V3 => rows::OTHER,
-        Version::P2 => rows::OTHER,
-        Version::P3 => rows::OTHER,
+    let row = early_row(opcode);
+    if (row >> rank) % 2 == 0 {
+        return 0;
     }
+    row / rows::SHAPE
 }
 
 // The shape of an opcode in a version without sizes; 0 where the table does not list it there, and in any other version.
+#[tactic(auto, using(crate::proofs::Tables::early_shapes))]
 pub fn shape_of(version: Version, opcode: u32) -> u64
     ensures { result ≡ pick (has_sizes version) 0 (shape_of version opcode) }
 {
-    let rank = early_rank(version);
-    if rank < rows::OTHER {
-        let row = early_row(opcode);
-        if (row >> rank) % 2 == 0 {
-            return 0;
-        }
-        return row / rows::SHAPE;
-    }
     match version {
         Version::V1 => vertex_shape(opcode),
+        Version::P11 => early_shape(0, opcode),
+        Version::P12 => early_shape(1, opcode),
+        Version::P13 => early_shape(2, opcode),
         Version::P14 => late_shape(opcode),
-        Version::P11 => 0,
-        Version::P12 => 0,
-        Version::P13 => 0,
-        Version::V2 => 0,
-        Version::V3 => 0,
-        Version::P2 => 0,
-        Version::P3 => 0,
+        _ => 0,
     }
 }

@@ -1,8 +1,6 @@
 // The numbers of the rows. A row of ps_1_1 to ps_1_3: bits 2:0 the versions, above them the shape.
 pub(crate) const SHAPE: u64 = 8;
 
-pub(crate) const OTHER: u32 = 3;
-
 const ALL: u64 = 0b111;
 
 const LATER: u64 = 0b110;

@@ -11,6 +11,7 @@ ghost use Rattle.opcodes.specs.Rows.{row_of};
 use paper::Version;
 
 // The row of an opcode in document 01's table; 0 for one that is in no row. One arm for each opcode: only so does it become one table in memory.
+#[tactic(auto, using(crate::proofs::Table::no_row_lem), unfolding(paper::specs::OpcodeTable::rows, paper::specs::Places::entry_of, paper::specs::Places::typed_places, paper::specs::Blocks::class_of, paper::specs::Blocks::classes, crate::specs::Rows::row_of))]
 fn row_of(opcode: u32) -> u64
     ensures { result ≡ row_of opcode }
 {
@@ -104,12 +105,14 @@ fn base_shape(version: Version, opcode: u32) -> u64
     shape / shapes::RULE * shapes::RULE + shape % shapes::PREDICABLE
 }
 
-// The shape of an opcode in a version; 0 where its table does not list it there.
+// The shape of an opcode in a version; 0 where its table does not list it there. It is no Option: a row of the tables is 0 there too, and a
+// shape of 0 has no places, so that who asks for the places alone has one way for both.
 pub fn shape_of(version: Version, opcode: u32) -> u64
     ensures { result ≡ shape_of version opcode }
 {
     if versions::has_sizes(version) {
-        return base_shape(version, opcode);
+        base_shape(version, opcode)
+    } else {
+        first_opcodes::shape_of(version, opcode)
     }
-    first_opcodes::shape_of(version, opcode)
 }

@@ -115,6 +115,9 @@ module _
     pub turn_stop : is_plain told ≡ true → stop ≤ next_at at told → Stretched v tokens start stop beyond (record { at = at; count = count; told = told })
     turn_stop p stops = record { leads = l; is = is; ends = rw (p, le-ltb (next_at at told) stop stops) refl }
 
+-- a turn of the walk
+pub ruleset turns = (told_none, turn_inside, turn_on, turn_last, turn_stop)
+
 -- where the next instruction may not begin before a stop, the stretch has no more than one
 pub leads_one : {v : Version} {tokens : List ℕ} {beyond start at n : ℕ} → PlainTo v tokens beyond 0 start at n → at ≡ start
 leads_one here = refl

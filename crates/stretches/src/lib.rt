@@ -17,6 +17,7 @@ pub struct Stretch {
 
 // Judges instruction after instruction from `from` on, as long as they are plain and the next one begins before `stop`. Behind these
 // tokens `beyond` more are there. Most instructions are plain: they neither open nor close a block, and may stand anywhere.
+#[tactic(auto, using(crate::proofs::Stretches::turns))]
 pub fn judge_stretch(
     version: Version,
     tokens: &[u32],
@@ -40,14 +41,17 @@ pub fn judge_stretch(
         at = next;
         count += 1;
     }
-    let told = told::refused_first(Reason::RunOut);
-    Stretch { at, count, told }
+    Stretch {
+        at,
+        count,
+        told: told::refused_first(Reason::RunOut),
+    }
 }
 
 // What is told of the instruction at a place of these tokens, behind which `beyond` more are there.
+#[tactic(auto, using(crate::proofs::Stretches::leads_one))]
 pub fn judge_at(version: Version, tokens: &[u32], at: usize, beyond: usize) -> u64
     ensures { result ≡ told_at version tokens.now beyond at }
 {
-    let stretch = judge_stretch(version, tokens, at, 0, beyond);
-    stretch.told
+    judge_stretch(version, tokens, at, 0, beyond).told
 }
