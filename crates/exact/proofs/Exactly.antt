@@ -1,5 +1,5 @@
 -- Exact rows are the paper's: below 97 by one computed test, from 97 on since the table names smaller opcodes only.
-use Prim.Native.Nat.{ℕ, ◌%◌, ◌≤◌, ◌<◌}
+use Prim.Native.Nat.{ℕ, ◌%◌, ◌≤◌}
 use mathlib.Core.Path.{◌≡◌, refl}
 use mathlib.Core.Bool.{Bool, true, false, not, ◌&&◌, ◌||◌}
 use native.Mathlib.Omega.{arith}
@@ -105,9 +105,6 @@ right_unlisted v opcode b e =
 agrees : (v : Version) (opcode : ℕ) → right v opcode ≡ true
 unfolding rows entry_of typed_places class_of classes shape_of row_of exact_row decoded
 agrees = computed right refl refl right_unlisted
-
-pub rank_few : (v : Version) → rank v < 16
-rank_few v = ltb-true _ _ (each (λ v. ltb (rank v) 16) refl v)
 
 module _ (v : Version) (opcode row : ℕ) (sized : has_sizes v ≡ true) (e : row ≡ exact_row opcode) (listed : listed_in row (rank v) ≡ 1) where
   test : told v opcode row ≡ true
