@@ -3,6 +3,8 @@ use Prim.Native.Nat.{ℕ, zero, suc, ◌-◌, ◌/◌, ◌^◌, ◌≤◌, ◌<�
 use mathlib.Core.Path.{◌≡◌, refl, sym, ap, ◌∙◌}
 use mathlib.Core.Bool.{Bool, true, false}
 use mathlib.Core.List.{List, ◌∷◌}
+use Rattle.std.specs.Prelude.{Option, Some, None}
+use Rattle.std.specs.Bool.{then_some}
 use native.Mathlib.Nat.{mod-lt}
 use native.Mathlib.Omega.{arith}
 use lib.Dec.{eqb, leb, lit<}
@@ -30,7 +32,7 @@ use Rattle.told.specs.Numbered.{yes_number, judged_number}
 use Rattle.instruction.specs.Shown.{judged_in}
 use Rattle.door.specs.Door.{is_fit, Meant, is_common, count_of, claim_for, yes_of, passed}
 
-sources_length : (n : ℕ) (types : Types) → length (sources n types) ≡ n
+pub sources_length : (n : ℕ) (types : Types) → length (sources n types) ≡ n
 sources_length zero types = refl
 sources_length (suc n) types = ap suc (sources_length n types)
 
@@ -95,7 +97,7 @@ module _ (v : Version) (first : ℕ) (common : is_common v first ≡ true) (some
 
 -- the door's answer, by what is asked
 module _ (v : Version) (first : ℕ) (behind : List ℕ) where
-  pub passes_none : count_of v first ≡ 0 → passed v first behind ≡ 0
+  pub passes_none : count_of v first ≡ 0 → passed v first behind ≡ None
   unfolding passed
   passes_none z = rw z refl
 
@@ -120,16 +122,16 @@ module _ (v : Version) (first : ℕ) (behind : List ℕ) where
         pick (leb claim (length behind)) (on_operands (operands v row_of_lem 1 (take claim behind)) claim (One Plain)) (bad_instruction (refusal RUN_OUT 0))
     judged_here left = rw claim_same (judged_row v first is.0 there behind left)
 
-    yes_by : (o : Operands) → yes_of (on_operands o claim (One Plain)) ≡ pick (is_fit o) (yes_number claim 1) 0
+    yes_by : (o : Operands) → yes_of (on_operands o claim (One Plain)) ≡ then_some (is_fit o) (yes_number claim 1)
     yes_by good_operands = refl
     yes_by (bad_operands r) = refl
 
     -- more tokens are claimed than there are
-    pub passes_short : leb claim (length behind) ≡ false → passed v first behind ≡ 0
+    pub passes_short : leb claim (length behind) ≡ false → passed v first behind ≡ None
     unfolding passed
     passes_short short = rw (judged_here (length behind), short) (either (eqb (count_of v first) 0))
       where
-        either : (b : Bool) → ◌≡◌ {A = ℕ} (pick b 0 0) 0
+        either : (b : Bool) → ◌≡◌ {A = Option ℕ} (pick b None None) None
         either true = refl
         either false = refl
 
@@ -144,21 +146,22 @@ module _ (v : Version) (first : ℕ) (behind : List ℕ) where
 
     pub passes_by : leb claim (length behind) ≡ true → (fit : Bool) →
         fit ≡ is_fit (operands v (destination (uniform_of v (opcode_of first)).written ∷ sources (count - 1) (uniform_of v (opcode_of first)).read) 1 (take claim behind)) →
-        passed v first behind ≡ pick fit (yes_number claim 1) 0
+        passed v first behind ≡ then_some fit (yes_number claim 1)
     unfolding passed
     passes_by enough fit f =
         rw (judged_here (length behind), enough, ne_eqb (count_of v first) 0 (λ z. some (e ∙ z)), f, is.1)
         (yes_by (operands v row_of_lem 1 (take claim behind)))
 
     -- the answer, by what is told of the tokens for the two sets of the row
-    pub passes_told : leb claim (length behind) ≡ true → (written read : ℕ) →
+    pub passes_told : leb claim (length behind) ≡ true → (claimed : List ℕ) → claimed ≡ take claim behind → (written read : ℕ) →
         written ≡ (row_of v (opcode_of first)).written → read ≡ (row_of v (opcode_of first)).read → (fit : Bool) →
-        ((d s : Types) → Meant v (destination d) written → Meant v (source s) read →
-        fit ≡ is_fit (operands v (destination d ∷ sources (count - 1) s) 1 (take claim behind))) →
-        passed v first behind ≡ pick fit (yes_number claim 1) 0
-    passes_told enough written read w r fit f =
+        ((d s : Types) → Meant v (destination d) written → Meant v (source s) read → fit ≡ is_fit (operands v (destination d ∷ sources (count - 1) s) 1 claimed)) →
+        passed v first behind ≡ then_some fit (yes_number claim 1)
+    passes_told enough claimed same written read w r fit f =
         let kind = uniform_of v (opcode_of first) in
-        passes_by enough fit (f kind.written kind.read (meant_written written w) (meant_read read r))
+        passes_by enough fit
+        (f kind.written kind.read (meant_written written w) (meant_read read r)
+        ∙ ap (λ tokens. is_fit (operands v (destination kind.written ∷ sources (count - 1) kind.read) 1 tokens)) same)
 
     -- a claim is small
     pub claim_few : claim < 16
@@ -169,18 +172,17 @@ module _ (v : Version) (first : ℕ) (behind : List ℕ) where
         by false s = rw (c, s, is.1) (omega (arith, uniform_few v (opcode_of first)))
 
 -- the law of the door, however many tokens are left behind those that are shown
-pub door_law : (v : Version) (first : ℕ) (behind : List ℕ) (left : ℕ) → (passed v first behind ≡ 0 → ⊥) →
-    passed v first behind ≡ judged_number (judged_in v first behind left)
+pub door_law : (v : Version) (first : ℕ) (behind : List ℕ) (left told : ℕ) → Some told ≡ passed v first behind → told ≡ judged_number (judged_in v first behind left)
 unfolding passed
-door_law v first behind left pass = by (eqb (count_of v first) 0) refl pass
+door_law v first behind left told pass = by (eqb (count_of v first) 0) refl pass
   where
-    yes_told : (j : Judged) → (yes_of j ≡ 0 → ⊥) → yes_of j ≡ judged_number j
-    yes_told (good_instruction size class) h = refl
-    yes_told (bad_instruction r) h = absurd (h refl)
+    yes_told : (j : Judged) → Some told ≡ yes_of j → told ≡ judged_number j
+    yes_told (good_instruction size class) h = cc
+    yes_told (bad_instruction r) h = apart (cc)
 
-    by : (none : Bool) → eqb (count_of v first) 0 ≡ none → (pick none 0 (yes_of (judged_in v first behind (length behind))) ≡ 0 → ⊥) →
-        pick none 0 (yes_of (judged_in v first behind (length behind))) ≡ judged_number (judged_in v first behind left)
-    by true z h = absurd (h refl)
+    by : (none : Bool) → eqb (count_of v first) 0 ≡ none → Some told ≡ pick none None (yes_of (judged_in v first behind (length behind))) →
+        told ≡ judged_number (judged_in v first behind left)
+    by true z h = apart (cc)
     by false z h =
         let some = eqb-false (count_of v first) 0 z in
         yes_told (judged_in v first behind (length behind)) h

@@ -3,10 +3,13 @@ use Rattle.std.specs.Prelude.{Some}
 use Prim.Native.Nat.{ℕ, zero, suc, ◌+◌, ◌*◌, ◌/◌, ◌%◌, ◌^◌, ◌<◌, ◌≤◌}
 use mathlib.Core.Path.{◌≡◌, refl, sym, ap, ◌∙◌}
 use mathlib.Core.Bool.{Bool, true, false, not, ◌&&◌, ◌||◌}
+use Rattle.std.specs.Prelude.{Option, IfSome}
+use Rattle.std.specs.Bool.{then_some}
 use mathlib.Core.List.{List, [], ◌∷◌}
 use native.Mathlib.Omega.{arith}
 use lib.Dec.{eqb}
-use lib.ListN.{length, take, get_or}
+use lib.ListN.{length, take, drop, get_or}
+use lib.Seq.{length-take-le}
 use borrow.Author.Tests.{eqb-true, eq-eqb, ne_eqb, leb-true, le-leb}
 use Rattle.paper.specs.Notation.{bits, bit, pick, among}
 use Rattle.paper.specs.Versions.{is_pixel}
@@ -30,7 +33,11 @@ use Rattle.instruction.specs.Shown.{judged_in}
 use Rattle.instruction.proofs.Judging.{judged_shaped, class_in_lem}
 use Rattle.versions.specs.Sets.{holds}
 use Rattle.told.specs.Numbered.{yes_number, judged_number}
-use Rattle.exact.specs.Exact.{one_raw, four_raws, upper_in, size_in, kind_in, exact_class, first_place, places_of, Known, Exactly}
+use Rattle.exact.specs.Exact.{one_raw, four_raws, upper_in, size_in, kind_in, kind_by, exact_class, first_place, places_of, Known, Exactly}
+use Rattle.exact.specs.declared.Kind.{Kind}
+use Rattle.exact.specs.declared.Kind.TheVariants.{Empty, Ds, Dss, Dsss, Sampled, Source, Constant}
+use Rattle.uniform.specs.Uniform.{sources}
+use Rattle.door.proofs.Passing.{sources_length}
 use Rattle.door.specs.Quick.{spot_of, wide_of, modifier_set, most_results, read_laid, written_laid, free_read, free_written, Stands, TellsRow}
 
 implied : (a b : Bool) → not a || b ≡ true → a ≡ true → b ≡ true
@@ -206,6 +213,22 @@ module _ (v : Version) (token : ℕ) (word : token < 2 ^ 32) where
       stands v (destination (only (type ∷ []))) token
       (destination_good token word v l (only (type ∷ [])) (top_one (eqb (type_of token + 32) place) h) (is_type place type 32 e h))
 
+-- the numbers of the kinds
+abbrev pub kind_number : Kind → ℕ
+kind_number Empty = 1
+kind_number Ds = 2
+kind_number Dss = 3
+kind_number Dsss = 4
+kind_number Sampled = 5
+kind_number Source = 6
+kind_number Constant = 7
+
+abbrev kind_rule : ℕ → Bool
+kind_rule n = eqb n 0 || eqb (kind_number (kind_by n)) n
+
+kind_back : (n : ℕ) → n < 8 → (n ≡ 0 → ⊥) → kind_number (kind_by n) ≡ n
+kind_back n few some = eqb-true (kind_number (kind_by n)) n (rw (ne_eqb n 0 some) at (below_at kind_rule 8 n refl few))
+
 -- operands one after the other, each of one token
 module _ (v : Version) (place : Place) (offset token : ℕ) (rest : List ℕ) (places : List Place) where
   pub operands_step : Stands v place token → operands v (place ∷ places) offset (token ∷ rest) ≡ operands v places (offset + 1) rest
@@ -249,18 +272,27 @@ module _ (v : Version) where
       ∙ operands_step v r 3 z [] [] c
       ∙ operands_none v 4
 
-  fit_four : (behind : List ℕ) → 5 ≤ length behind → Stands v D (get_or behind 0 0) → Stands v S (get_or behind 1 0) → Stands v S (get_or behind 2 0) →
-      Stands v S (get_or behind 3 0) → operands v (D ∷ S ∷ S ∷ S ∷ []) 1 (take 4 behind) ≡ good_operands
-  fit_four [] h a b c d = absurd (omega arith)
-  fit_four (x ∷ []) h a b c d = absurd (omega arith)
-  fit_four (x ∷ y ∷ []) h a b c d = absurd (omega arith)
-  fit_four (x ∷ y ∷ z ∷ []) h a b c d = absurd (omega arith)
-  fit_four (x ∷ y ∷ z ∷ w ∷ rest) h a b c d =
-      operands_step v D 1 x (y ∷ z ∷ w ∷ []) (S ∷ S ∷ S ∷ []) a
-      ∙ operands_step v S 2 y (z ∷ w ∷ []) (S ∷ S ∷ []) b
-      ∙ operands_step v S 3 z (w ∷ []) (S ∷ []) c
-      ∙ operands_step v S 4 w [] [] d
-      ∙ operands_none v 5
+  -- a free destination and so many free sources behind it
+  abbrev pub Reads : ℕ → List ℕ → Type 0
+  Reads n behind = (k : ℕ) → k < length (take n (drop 1 behind)) → Stands v S (get_or (take n (drop 1 behind)) k 0)
+
+  sources_fit : (tokens : List ℕ) (offset : ℕ) → ((k : ℕ) → k < length tokens → Stands v S (get_or tokens k 0)) →
+      operands v (sources (length tokens) free) offset tokens ≡ good_operands
+  sources_fit [] offset s = operands_none v offset
+  sources_fit (t ∷ ts) offset s =
+      operands_step v S offset t ts (sources (length ts) free) (s 0 (omega arith)) ∙ sources_fit ts (offset + 1) (λ k less. s (suc k) (omega arith))
+
+  fit_free : (n : ℕ) (behind : List ℕ) → n < 5 → 5 ≤ length behind → Stands v D (get_or behind 0 0) → Reads n behind →
+      operands v (D ∷ sources n free) 1 (take (suc n) behind) ≡ good_operands
+  fit_free n [] less h d s = absurd (omega arith)
+  fit_free n (x ∷ rest) less h d s =
+      let count : length (take n rest) ≡ n = length-take-le n rest (omega arith) in
+      operands_step v D 1 x (take n rest) (sources n free) d ∙ (rw count at (sources_fit (take n rest) 2 s))
+
+  first_source : (behind : List ℕ) → 5 ≤ length behind → Reads 1 behind → Stands v S (get_or behind 1 0)
+  first_source [] h s = absurd (omega arith)
+  first_source (x ∷ []) h s = absurd (omega arith)
+  first_source (x ∷ y ∷ rest) h s = s 0 (omega arith)
 
   fit_raws : (place : Place) (behind : List ℕ) → 5 ≤ length behind → Stands v place (get_or behind 0 0) →
       operands v (place ∷ raw ∷ raw ∷ raw ∷ raw ∷ []) 1 (take 5 behind) ≡ good_operands
@@ -291,6 +323,16 @@ module _ (v : Version) where
     plain_class : (kind_in row ≡ 1 → ⊥) → (kind_in row ≡ 6 → ⊥) → exact_class row ≡ 1
     plain_class a b = eqb-true (exact_class row) 1 (rw (ne_eqb (kind_in row) 1 a, ne_eqb (kind_in row) 6 b) at k.plain)
 
+    -- the kind that is told, by its number
+    pub kind_is : (kind : Kind) → kind ≡ kind_by (kind_in row) → kind_in row ≡ kind_number kind
+    kind_is kind e = sym (kind_back (kind_in row) k.few k.kind) ∙ ap kind_number (sym e)
+
+    tells_free : (n told : ℕ) → n < 5 → decoded (places_of row) ≡ D ∷ sources n free → (kind_in row ≡ 1 → ⊥) → (kind_in row ≡ 6 → ⊥) →
+        told ≡ yes_number (suc n) 1 → Stands v D (get_or behind 0 0) × Reads n behind → TellsRow v row behind told
+    tells_free n told less e a b is s =
+        tells (suc n) told (D ∷ sources n free) (omega arith) e (ap suc (sources_length n free)) (rw (plain_class a b) is)
+        (fit_free n behind less enough s.0 s.1)
+
     -- kind by kind
     none_places : kind_in row ≡ 1 → decoded (places_of row) ≡ []
     unfolding decoded
@@ -303,42 +345,32 @@ module _ (v : Version) where
     unfolding decoded place_by
     ds_places e = rw e refl
 
-    pub tells_ds : (told : ℕ) → kind_in row ≡ 2 → told ≡ yes_number 2 1 → Stands v D (get_or behind 0 0) × Stands v S (get_or behind 1 0) →
-        TellsRow v row behind told
-    tells_ds told e is s =
-        tells 2 told (D ∷ S ∷ []) (omega arith) (ds_places e) refl (rw (plain_class (λ o. omega arith) (λ o. omega arith)) is)
-        (fit_two D S behind enough s.0 s.1)
+    pub tells_ds : (told : ℕ) → kind_in row ≡ 2 → told ≡ yes_number 2 1 → Stands v D (get_or behind 0 0) × Reads 1 behind → TellsRow v row behind told
+    tells_ds told e is s = tells_free 1 told (omega arith) (ds_places e) (λ o. omega arith) (λ o. omega arith) is s
 
     dss_places : kind_in row ≡ 3 → decoded (places_of row) ≡ D ∷ S ∷ S ∷ []
     unfolding decoded place_by
     dss_places e = rw e refl
 
-    pub tells_dss : (told : ℕ) → kind_in row ≡ 3 → told ≡ yes_number 3 1 →
-        Stands v D (get_or behind 0 0) × Stands v S (get_or behind 1 0) × Stands v S (get_or behind 2 0) → TellsRow v row behind told
-    tells_dss told e is s =
-        tells 3 told (D ∷ S ∷ S ∷ []) (omega arith) (dss_places e) refl (rw (plain_class (λ o. omega arith) (λ o. omega arith)) is)
-        (fit_three D S S behind enough s.0 s.1 s.2)
+    pub tells_dss : (told : ℕ) → kind_in row ≡ 3 → told ≡ yes_number 3 1 → Stands v D (get_or behind 0 0) × Reads 2 behind → TellsRow v row behind told
+    tells_dss told e is s = tells_free 2 told (omega arith) (dss_places e) (λ o. omega arith) (λ o. omega arith) is s
 
     dsss_places : kind_in row ≡ 4 → decoded (places_of row) ≡ D ∷ S ∷ S ∷ S ∷ []
     unfolding decoded place_by
     dsss_places e = rw e refl
 
-    pub tells_dsss : (told : ℕ) → kind_in row ≡ 4 → told ≡ yes_number 4 1 →
-        Stands v D (get_or behind 0 0) × Stands v S (get_or behind 1 0) × Stands v S (get_or behind 2 0) × Stands v S (get_or behind 3 0) →
-        TellsRow v row behind told
-    tells_dsss told e is s =
-        tells 4 told (D ∷ S ∷ S ∷ S ∷ []) (omega arith) (dsss_places e) refl (rw (plain_class (λ o. omega arith) (λ o. omega arith)) is)
-        (fit_four behind enough s.0 s.1 s.2 s.3)
+    pub tells_dsss : (told : ℕ) → kind_in row ≡ 4 → told ≡ yes_number 4 1 → Stands v D (get_or behind 0 0) × Reads 3 behind → TellsRow v row behind told
+    tells_dsss told e is s = tells_free 3 told (omega arith) (dsss_places e) (λ o. omega arith) (λ o. omega arith) is s
 
     sampled_places : kind_in row ≡ 5 → decoded (places_of row) ≡ D ∷ S ∷ source (only (10 ∷ [])) ∷ []
     unfolding decoded place_by types_by
     sampled_places e = rw e refl
 
     pub tells_sampled : (told : ℕ) → kind_in row ≡ 5 → told ≡ yes_number 3 1 →
-        Stands v D (get_or behind 0 0) × Stands v S (get_or behind 1 0) × Stands v (source (only (10 ∷ []))) (get_or behind 2 0) → TellsRow v row behind told
+        (Stands v D (get_or behind 0 0) × Reads 1 behind) × Stands v (source (only (10 ∷ []))) (get_or behind 2 0) → TellsRow v row behind told
     tells_sampled told e is s =
         tells 3 told (D ∷ S ∷ source (only (10 ∷ [])) ∷ []) (omega arith) (sampled_places e) refl (rw (plain_class (λ o. omega arith) (λ o. omega arith)) is)
-        (fit_three D S (source (only (10 ∷ []))) behind enough s.0 s.1 s.2)
+        (fit_three D S (source (only (10 ∷ []))) behind enough s.0.0 (first_source behind enough s.0.1) s.1)
 
     -- a source of one type, which is that of REP, of CALL and LABEL, or of BREAKP
     source_places : (place type : ℕ) → kind_in row ≡ 6 → first_place row ≡ place → decoded place ≡ source (only (type ∷ [])) ∷ [] →
@@ -411,20 +443,9 @@ module _ (v : Version) where
         tells_constant = constant_at (eqb (first_place row) 34) (eqb (first_place row) 39) refl refl (k.one_destination_lem e)
 
 -- what is told only where a test holds
-pub told_where : (good : Bool) (number told : ℕ) → told ≡ pick good number 0 → (told ≡ 0 → ⊥) → (good ≡ true) × (told ≡ number)
-told_where true number told e some = (refl, e)
-told_where false number told e some = absurd (some e)
-
--- the last kind is the one that is left
-above_three : (kind : ℕ) → (kind ≡ 0 → ⊥) → (kind ≡ 1 → ⊥) → (kind ≡ 2 → ⊥) → (kind ≡ 3 → ⊥) → 3 < kind
-above_three kind a b c d = omega arith
-
-left_kind : (kind : ℕ) → 3 < kind → kind < 8 → (kind ≡ 4 → ⊥) → (kind ≡ 5 → ⊥) → (kind ≡ 6 → ⊥) → kind ≡ 7
-left_kind kind more few a b c = omega arith
-
-pub last_kind : (kind : ℕ) → kind < 8 → (kind ≡ 0 → ⊥) → (kind ≡ 3 → ⊥) → (kind ≡ 2 → ⊥) → (kind ≡ 4 → ⊥) → (kind ≡ 5 → ⊥) → (kind ≡ 1 → ⊥) → (kind ≡ 6 → ⊥) →
-    kind ≡ 7
-last_kind kind few k0 k3 k2 k4 k5 k1 k6 = left_kind kind (above_three kind k0 k1 k2 k3) few k4 k5 k6
+pub told_where : (good : Bool) (number : ℕ) (told : Option ℕ) (P : ℕ → Type 0) → told ≡ then_some good number → (good ≡ true → P number) → IfSome told P
+told_where true number told P e h = rw e (h refl)
+told_where false number told P e h = rw e tt
 
 -- a number has few places
 few_or_none : (f : ℕ) (place : Place) (places : List Place) → length places ≤ f → (b : Bool) → length (pick b [] (place ∷ places)) ≤ suc f

@@ -23,31 +23,36 @@ use Rattle.versions.specs.Sets.{holds}
 use Rattle.tokens.specs.Plain.{plain_source}
 use Rattle.tokens.specs.Good.{good_written, source_laid_in, good_read}
 use Rattle.layout.proofs.Layouts.{destination_order}
-use Rattle.std.specs.Prelude.{Result, is_ok}
-use Rattle.tokens.specs.declared.Wrong.{Wrong}
 use Rattle.tokens.specs.Brief.{brief}
 use Rattle.tokens.proofs.TokenAt.{plain_source_laid, brief_good}
 use Rattle.operands.proofs.OperandAt.{relative_at, operand_at}
 use Rattle.uniform.specs.Uniform.{sources}
+use Rattle.uniform.specs.declared.Row.{Row}
+use Rattle.std.specs.Prelude.{Some, None, is_ok}
+use Rattle.std.specs.Bool.{then_some}
 use Rattle.door.specs.Door.{took_in, is_fit, Meant}
 
 -- what an operand takes, by whether its token is good
-took_by : (t : Token) (offset : ℕ) (next : Taken) → took_in (on_token t offset next) ≡ pick (is_good t) (took_in next) 0
+took_by : (t : Token) (offset : ℕ) (next : Taken) → took_in (on_token t offset next) ≡ pick (is_good t) (took_in next) None
 took_by good_token offset next = refl
 took_by (bad_token reason bit) offset next = refl
+
+picked : (b : Bool) (n : ℕ) → then_some b n ≡ pick b (Some n) None
+picked true n = refl
+picked false n = refl
 
 took_pick : (b : Bool) (next other : Taken) → took_in (pick b next other) ≡ pick b (took_in next) (took_in other)
 took_pick true next other = refl
 took_pick false next other = refl
 
 -- the relative token
-module _ (v : Version) (offset at : ℕ) (told : Result (Unit {0}) Wrong) (behind : List ℕ) (h : at < length behind) (e : told ≡ brief v relative (get_or behind at 0)) where
-  told_good : is_ok told ≡ is_good (token_at v relative (get_or behind at 0))
-  told_good = rw e (brief_good v relative (get_or behind at 0))
-
-  pub relative_took : took_in (relative_token v offset (drop at behind)) ≡ pick (is_ok told) 2 0
-  relative_took =
-      rw (relative_at v offset at behind h, told_good) (took_by (token_at v relative (get_or behind at 0)) offset (operand_taken 2))
+module _ (v : Version) (offset at token : ℕ) (good : Bool) (behind : List ℕ) (h : at < length behind) (is : token ≡ get_or behind at 0)
+    (e : good ≡ is_ok (brief v relative token))
+  where
+    pub relative_took : then_some good 2 ≡ took_in (relative_token v offset (drop at behind))
+    relative_took =
+        rw (relative_at v offset at behind h, ← is, e, brief_good v relative token, took_by (token_at v relative token) offset (operand_taken 2))
+        (picked (is_good (token_at v relative token)) 2)
 
 -- what sizes have to do with bit 13
 implied : (a b : Bool) → not a || b ≡ true → a ≡ true → b ≡ true
@@ -117,25 +122,26 @@ module _ (v : Version) (set token : ℕ) where
       ∙ rw (plain_source_laid v types token p, m.types token) refl
 
 -- an operand at a place, by whether its token is good and brings a relative one
-module _ (v : Version) (place : Place) (offset at : ℕ) (behind : List ℕ) (h : at < length behind) where
-  abbrev token : ℕ
-  token = get_or behind at 0
-
+module _ (v : Version) (place : Place) (offset at token : ℕ) (behind : List ℕ) (h : at < length behind) (is : token ≡ get_or behind at 0) where
   abbrev brought : Taken
   brought = relative_token v (offset + 1) (drop (at + 1) behind)
 
   operand_took : took_in (operand v place offset (drop at behind)) ≡
-      pick (is_good (token_at v place token)) (pick (brings_relative place token) (took_in brought) 1) 0
+      pick (is_good (token_at v place token)) (pick (brings_relative place token) (took_in brought) (Some 1)) None
   operand_took =
-      rw (operand_at v place offset at behind h)
+      rw (operand_at v place offset at behind h, ← is)
       (took_by (token_at v place token) offset (pick (brings_relative place token) brought (operand_taken 1))
-      ∙ ap (λ n. pick (is_good (token_at v place token)) n 0) (took_pick (brings_relative place token) brought (operand_taken 1)))
+      ∙ ap (λ n. pick (is_good (token_at v place token)) n None) (took_pick (brings_relative place token) brought (operand_taken 1)))
 
-  pub operand_bad : is_good (token_at v place token) ≡ false → took_in (operand v place offset (drop at behind)) ≡ 0
+  -- it brings none
+  pub operand_plain : brings_relative place token ≡ false → then_some (is_good (token_at v place token)) 1 ≡ took_in (operand v place offset (drop at behind))
+  operand_plain b = picked (is_good (token_at v place token)) 1 ∙ sym (operand_took ∙ rw b refl)
+
+  pub operand_bad : is_good (token_at v place token) ≡ false → took_in (operand v place offset (drop at behind)) ≡ None
   operand_bad b = operand_took ∙ rw b refl
 
   pub operand_one : is_good (token_at v place token) ≡ true → brings_relative place token ≡ false →
-      took_in (operand v place offset (drop at behind)) ≡ 1
+      took_in (operand v place offset (drop at behind)) ≡ Some 1
   operand_one g b = operand_took ∙ rw (g, b) refl
 
   pub operand_more : is_good (token_at v place token) ≡ true → brings_relative place token ≡ true →
@@ -183,47 +189,26 @@ module _ (v : Version) (token : ℕ) where
   plain_brings place p = unmarked_brings place (eqb-true (bit 13 token) 0 (both_left (eqb (bit 13 token) 0) _ (both_right (eqb (bits 15 14 token) 0) _ p)))
 
 -- operands one after the other, by what the first takes
-module _ (v : Version) (place : Place) (offset : ℕ) where
-  relative_some : (t : Token) (n : ℕ) → on_token t (offset + 1) (operand_taken 2) ≡ operand_taken n → n ≡ 0 → ⊥
-  relative_some good_token n e z = let two : 2 ≡ n = cc in omega arith
-  relative_some (bad_token reason bit) n e z = apart (cc)
+module _ (v : Version) (place : Place) (offset : ℕ) (rest : List Place) (tokens : List ℕ) where
+  none_by : (t : Taken) → took_in t ≡ None → is_fit (on_taken t (λ n. operands v rest (offset + n) (drop n tokens))) ≡ false
+  none_by (operand_taken n) z = apart (cc)
+  none_by (operand_refused r) z = refl
 
-  brought_some : (brings : Bool) (rest : List ℕ) (n : ℕ) → pick brings (relative_token v (offset + 1) rest) (operand_taken 1) ≡ operand_taken n → n ≡ 0 → ⊥
-  brought_some true [] n e z = apart (cc)
-  brought_some true (t ∷ rest) n e z = relative_some (token_at v relative t) n e z
-  brought_some false rest n e z = let one : 1 ≡ n = cc in omega arith
+  pub fit_refused : took_in (operand v place offset tokens) ≡ None → is_fit (operands v (place ∷ rest) offset tokens) ≡ false
+  unfolding operands
+  fit_refused z = none_by (operand v place offset tokens) z
 
-  token_some : (t : Token) (brings : Bool) (rest : List ℕ) (n : ℕ) →
-      on_token t offset (pick brings (relative_token v (offset + 1) rest) (operand_taken 1)) ≡ operand_taken n → n ≡ 0 → ⊥
-  token_some good_token brings rest n e z = brought_some brings rest n e z
-  token_some (bad_token reason bit) brings rest n e z = apart (cc)
+  took_is : (t : Taken) (n : ℕ) → took_in t ≡ Some n → t ≡ operand_taken n
+  took_is (operand_taken k) n e = cc
+  took_is (operand_refused r) n e = apart (cc)
 
-  operand_some : (tokens : List ℕ) (n : ℕ) → operand v place offset tokens ≡ operand_taken n → n ≡ 0 → ⊥
-  unfolding operand
-  operand_some [] n e z = apart (cc)
-  operand_some (t ∷ rest) n e z = token_some (token_at v place t) (brings_relative place t) rest n e z
+  module _ (n : ℕ) (e : took_in (operand v place offset tokens) ≡ Some n) where
+    pub taken_is : operand v place offset tokens ≡ operand_taken n
+    taken_is = took_is (operand v place offset tokens) n e
 
-  module _ (rest : List Place) (tokens : List ℕ) where
-    none_by : (t : Taken) → operand v place offset tokens ≡ t → took_in t ≡ 0 →
-        is_fit (on_taken t (λ n. operands v rest (offset + n) (drop n tokens))) ≡ false
-    none_by (operand_taken n) e z = absurd (operand_some tokens n e z)
-    none_by (operand_refused r) e z = refl
-
-    pub fit_refused : took_in (operand v place offset tokens) ≡ 0 → is_fit (operands v (place ∷ rest) offset tokens) ≡ false
+    pub fit_taken : is_fit (operands v (place ∷ rest) offset tokens) ≡ is_fit (operands v rest (offset + n) (drop n tokens))
     unfolding operands
-    fit_refused z = none_by (operand v place offset tokens) refl z
-
-    took_is : (t : Taken) (n : ℕ) → took_in t ≡ n → (n ≡ 0 → ⊥) → t ≡ operand_taken n
-    took_is (operand_taken k) n e some = ap operand_taken e
-    took_is (operand_refused r) n e some = absurd (some (sym e))
-
-    module _ (n : ℕ) (e : n ≡ took_in (operand v place offset tokens)) (some : n ≡ 0 → ⊥) where
-      pub taken_is : operand v place offset tokens ≡ operand_taken n
-      taken_is = took_is (operand v place offset tokens) n (sym e) some
-
-      pub fit_taken : is_fit (operands v (place ∷ rest) offset tokens) ≡ is_fit (operands v rest (offset + n) (drop n tokens))
-      unfolding operands
-      fit_taken = rw taken_is refl
+    fit_taken = rw taken_is refl
 
 pub sources_step : (m k : ℕ) (types : Types) → m ≡ suc k → sources m types ≡ source types ∷ sources k types
 sources_step m k types e = rw e refl
@@ -237,9 +222,9 @@ fit_end v offset at behind h = by (eqb at (length behind)) refl
     by true e = let same = eqb-true at (length behind) e in rw (drop_of_length-le behind {i = at} (omega arith)) refl
     by false e = let other = eqb-false at (length behind) e in rw (drop-cons behind at 0 (omega arith)) refl
 
--- the operands that are left fit exactly if all do
-abbrev pub Left : Version → ℕ → ℕ → ℕ → List ℕ → ℕ → ℕ → Type 0
-Left v count written read behind at left =
-    (d s : Types) → Meant v (destination d) written → Meant v (source s) read →
+-- the operands that are left, behind so many of a row, fit exactly if all do
+abbrev pub Left : Version → Row → List ℕ → ℕ → ℕ → Type 0
+Left v row behind at passed =
+    (d s : Types) → Meant v (destination d) row.written → Meant v (source s) row.read →
     (at ≤ length behind) ×
-    (is_fit (operands v (sources (left - 1) s) (1 + at) (drop at behind)) ≡ is_fit (operands v (destination d ∷ sources (count - 1) s) 1 behind))
+    (is_fit (operands v (sources (row.count - passed) s) (1 + at) (drop at behind)) ≡ is_fit (operands v (destination d ∷ sources (row.count - 1) s) 1 behind))

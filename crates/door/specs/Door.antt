@@ -1,5 +1,5 @@
 -- The door: lawful instructions of the common kind, told of by a few tests.
-use Rattle.std.specs.Prelude.{ℕ, ◌≡◌, Bool, true, false, List, eqb, length}
+use Rattle.std.specs.Prelude.{ℕ, ◌≡◌, Bool, true, false, List, Option, Some, None, MatchOption, eqb, length}
 use Rattle.paper.specs.Notation.{pick}
 use Rattle.paper.specs.Versions.{has_sizes}
 use Rattle.paper.specs.OperandTokens.{is_free, typed, type_of}
@@ -15,10 +15,10 @@ use Rattle.told.specs.Numbered.{yes_number}
 use Rattle.instruction.specs.Shown.{judged_in}
 use Rattle.door.specs.declared.Wanted.{Wanted}
 
--- how many tokens an operand takes; 0 if it is refused
-abbrev pub took_in : Taken → ℕ
-took_in (operand_taken n) = n
-took_in (operand_refused r) = 0
+-- how many tokens an operand takes, if it is not refused
+abbrev pub took_in : Taken → Option ℕ
+took_in (operand_taken n) = Some n
+took_in (operand_refused r) = None
 
 abbrev pub is_fit : Operands → Bool
 is_fit good_operands = true
@@ -43,16 +43,21 @@ claim_for v first count = pick (has_sizes v) (stated_size first) count
 
 -- what is asked of the tokens behind a first one
 pub record Wants (v : Version) (first : ℕ) (r : Wanted) : Type 0 where
-  pub many : r.count ≡ count_of v first
-  pub claims : (r.count ≡ 0 → ⊥) → r.claim ≡ claim_for v first r.count
-  pub writes : (r.count ≡ 0 → ⊥) → r.written ≡ (row_of v (opcode_of first)).written
-  pub reads : (r.count ≡ 0 → ⊥) → r.read ≡ (row_of v (opcode_of first)).read
+  pub some : r.row.count ≡ 0 → ⊥
+  pub many : r.row.count ≡ count_of v first
+  pub claims : r.claim ≡ claim_for v first r.row.count
+  pub writes : r.row.written ≡ (row_of v (opcode_of first)).written
+  pub reads : r.row.read ≡ (row_of v (opcode_of first)).read
 
--- what is told of a good instruction; 0 of a refused one
-abbrev pub yes_of : Judged → ℕ
-yes_of (good_instruction size class) = yes_number size (class_number class)
-yes_of (bad_instruction r) = 0
+-- nothing, where there are no such operands
+abbrev pub Asked : Version → ℕ → Option Wanted → Type 0
+Asked v first r = MatchOption r (count_of v first ≡ 0) (Wants v first)
 
--- the door tells what the judge does of a good instruction of the common kind with a uniform row, and 0 of any other
-unfoldable pub passed : Version → ℕ → List ℕ → ℕ
-passed v first behind = pick (eqb (count_of v first) 0) 0 (yes_of (judged_in v first behind (length behind)))
+-- what is told of a good instruction
+abbrev pub yes_of : Judged → Option ℕ
+yes_of (good_instruction size class) = Some (yes_number size (class_number class))
+yes_of (bad_instruction r) = None
+
+-- the door tells what the judge does of a good instruction of the common kind with a uniform row, and nothing of any other
+unfoldable pub passed : Version → ℕ → List ℕ → Option ℕ
+passed v first behind = pick (eqb (count_of v first) 0) None (yes_of (judged_in v first behind (length behind)))

@@ -1,10 +1,11 @@
 -- Exact rows are the paper's: below 97 by one computed test, from 97 on since the table names smaller opcodes only.
-use Prim.Native.Nat.{ℕ, ◌%◌, ◌≤◌, ◌<◌}
+use Prim.Native.Nat.{ℕ, ◌%◌, ◌≤◌}
 use mathlib.Core.Path.{◌≡◌, refl}
 use mathlib.Core.Bool.{Bool, true, false, not, ◌&&◌, ◌||◌}
 use native.Mathlib.Omega.{arith}
 use lib.Dec.{eqb, ltb}
 use borrow.Author.Tests.{eqb-true, eqb-false, eq-eqb, ltb-true}
+use Rattle.std.specs.Prelude.{Some, None}
 use Rattle.paper.specs.Notation.{pick}
 use Rattle.paper.specs.Versions.{has_sizes}
 use Rattle.paper.specs.OpcodeTable.{rows, DCL}
@@ -12,7 +13,7 @@ use Rattle.paper.specs.Blocks.{classes, class_of}
 use Rattle.paper.specs.declared.Version.{Version}
 use Rattle.paper.specs.Places.{absent, entry_of, typed_places}
 use Rattle.paper.proofs.Arms.{NoneBelow, none_left}
-use Rattle.paper.proofs.Bools.{both_left, both_right, never}
+use Rattle.paper.proofs.Bools.{both_left, both_right, never, apart}
 use Rattle.paper.proofs.VersionTokens.{each}
 use Rattle.places.specs.Places.{decoded}
 use Rattle.shapes.specs.Shape.{shape_of, places_field, rule_in, class_in}
@@ -21,7 +22,7 @@ use Rattle.shapes.proofs.Computed.{Beyond, computed}
 use Rattle.versions.specs.Rows.{rank}
 use Rattle.opcodes.specs.Rows.{row_of}
 use Rattle.opcodes.proofs.Table.{row_beyond}
-use Rattle.exact.specs.Exact.{no_row, exact_row, upper_in, listed_in, kind_in, exact_class, first_place, upper_half, places_of, one_source, one_destination, Exactly}
+use Rattle.exact.specs.Exact.{no_row, exact_row, row_in, upper_in, listed_in, kind_in, exact_class, first_place, upper_half, places_of, one_source, one_destination, Exactly}
 
 exact_beyond : (opcode : ℕ) → limit ≤ opcode → exact_row opcode ≡ no_row
 unfolding exact_row
@@ -106,9 +107,6 @@ agrees : (v : Version) (opcode : ℕ) → right v opcode ≡ true
 unfolding rows entry_of typed_places class_of classes shape_of row_of exact_row decoded
 agrees = computed right refl refl right_unlisted
 
-pub rank_few : (v : Version) → rank v < 16
-rank_few v = ltb-true _ _ (each (λ v. ltb (rank v) 16) refl v)
-
 module _ (v : Version) (opcode row : ℕ) (sized : has_sizes v ≡ true) (e : row ≡ exact_row opcode) (listed : listed_in row (rank v) ≡ 1) where
   test : told v opcode row ≡ true
   test = rw (sized, ← e, listed) at (agrees v opcode)
@@ -148,3 +146,13 @@ module _ (v : Version) (opcode row : ℕ) (sized : has_sizes v ≡ true) (e : ro
               one_destination_lem = λ k. implied (eqb (kind_in row) 7) (one_destination (first_place row)) (both_right (by_source v opcode row) _ ones) (eq-eqb (kind_in row) 7 k);
             };
       }
+
+-- the row that is told of an opcode in a version
+pub told_row : (v : Version) (opcode row : ℕ) → has_sizes v ≡ true → Some row ≡ row_in v opcode → Exactly v opcode row
+told_row v opcode row sized e = by (eqb (listed_in (exact_row opcode) (rank v)) 1) refl e
+  where
+    by : (b : Bool) → eqb (listed_in (exact_row opcode) (rank v)) 1 ≡ b → Some row ≡ pick b (Some (exact_row opcode)) None → Exactly v opcode row
+    by true l h =
+        let same : row ≡ exact_row opcode = cc in
+        exactly v opcode row sized same (rw same (eqb-true (listed_in (exact_row opcode) (rank v)) 1 l))
+    by false l h = apart (cc)

@@ -1,5 +1,5 @@
 -- Exact rows: the first token of an instruction without a predicate, controls or relative operands is one number, which its opcode tells.
-use Rattle.std.specs.Prelude.{ℕ, ◌+◌, ◌*◌, ◌/◌, ◌%◌, ◌^◌, ◌<◌, ◌≡◌, Bool, true, ◌&&◌, ◌||◌, [], ◌∷◌, eqb, length}
+use Rattle.std.specs.Prelude.{ℕ, ◌+◌, ◌*◌, ◌/◌, ◌%◌, ◌^◌, ◌<◌, ◌≡◌, Bool, true, ◌&&◌, ◌||◌, [], ◌∷◌, Option, Some, None, eqb, length}
 use Rattle.paper.specs.Notation.{pick}
 use Rattle.paper.specs.Places.{free_destination, free_source, raw, source, only}
 use Rattle.places.specs.Places.{digits, decoded}
@@ -7,6 +7,9 @@ use Rattle.paper.specs.OpcodeTable.{DCL}
 use Rattle.paper.specs.declared.Version.{Version}
 use Rattle.shapes.specs.Shape.{shape_of, places_field, rule_in, class_in}
 use Rattle.opcodes.specs.Rows.{shape_from, row_of}
+use Rattle.versions.specs.Rows.{rank}
+use Rattle.exact.specs.declared.Kind.{Kind}
+use Rattle.exact.specs.declared.Kind.TheVariants.{Empty, Ds, Dss, Dsss, Sampled, Source, Constant}
 
 -- rows of places as one number: a free destination and so many free sources, and a sampler behind the first source
 abbrev pub ds : ℕ
@@ -78,11 +81,24 @@ listed_in row rank = row / 2 ^ (rank + 16) % 2
 abbrev pub kind_in : ℕ → ℕ
 kind_in row = row / 2 ^ 20 % 16
 
+abbrev pub kind_by : ℕ → Kind
+kind_by number =
+    pick (eqb number 1) Empty
+    (pick (eqb number 2) Ds
+    (pick (eqb number 3) Dss
+    (pick (eqb number 4) Dsss
+    (pick (eqb number 5) Sampled
+    (pick (eqb number 6) Source Constant)))))
+
 abbrev pub exact_class : ℕ → ℕ
 exact_class row = row / 2 ^ 24 % 16
 
 abbrev pub first_place : ℕ → ℕ
 first_place row = row / 2 ^ 28
+
+-- the row of an opcode, if the version lists it
+abbrev pub row_in : Version → ℕ → Option ℕ
+row_in v opcode = pick (eqb (listed_in (exact_row opcode) (rank v)) 1) (Some (exact_row opcode)) None
 
 -- the places of a kind, from the first one and the upper half
 abbrev pub places_of : ℕ → ℕ

@@ -4,14 +4,14 @@
 mod rows;
 
 ghost use Rattle.std.specs.Prelude.{◌≡◌, eqb};
-ghost use Rattle.exact.specs.Exact.{exact_row, upper_in, size_in, listed_in, kind_in, exact_class, first_place};
+ghost use Rattle.exact.specs.Exact.{exact_row, row_in, upper_in, size_in, listed_in, kind_in, kind_by, exact_class, first_place};
 ghost use Rattle.versions.specs.Rows.{rank};
 
 use paper::Version;
 
-// The exact row of an opcode in the versions with sizes; NONE where its operands are of no kind that has a number. One arm for each opcode: only so
-// does it become one table in memory.
-pub fn row_of(opcode: u32) -> u64
+// The exact row of an opcode in the versions with sizes; NO_ROW, which no version lists, where its operands are of no kind. One arm for each opcode, and
+// no Option: only so does it become one table in memory (with Some and None two: 25.1 instructions a token for 24.1 on real mix, vs_2_0).
+fn row_of(opcode: u32) -> u64
     ensures { result ≡ exact_row opcode }
 {
     match opcode {
@@ -71,21 +71,29 @@ pub fn row_of(opcode: u32) -> u64
     }
 }
 
+// The exact row of an opcode, if the version lists it.
+pub fn row_in(version: Version, opcode: u32) -> Option<u64>
+    ensures { result ≡ row_in version opcode }
+{
+    let row = row_of(opcode);
+    lists(row, version).then_some(row)
+}
+
 // Where the versions begin in a row.
 const VERSIONS: u32 = 16;
 
-// The kinds of operands.
-pub const NONE: u64 = 1;
-
-pub const DS: u64 = 2;
-
-pub const DSS: u64 = 3;
-
-pub const DSSS: u64 = 4;
-
-pub const SAMPLED: u64 = 5;
-
-pub const SOURCE: u64 = 6;
+// The kinds of operands: none; a free destination and one, two or three free sources; a sampler behind a free destination and source; one source of one
+// type; a destination of one type and raw operands.
+#[derive(Clone, Copy, PartialEq, Eq)]
+pub enum Kind {
+    Empty,
+    Ds,
+    Dss,
+    Dsss,
+    Sampled,
+    Source,
+    Constant,
+}
 
 // The place of a sampler.
 pub const SAMPLER: u64 = places::SOURCE + 10;
@@ -104,16 +112,24 @@ pub fn size_in(row: u64) -> u32
     (row / rows::SIZE % rows::SIZE) as u32
 }
 
-pub fn lists(row: u64, version: Version) -> bool
+fn lists(row: u64, version: Version) -> bool
     ensures { result ≡ eqb (listed_in row (rank version)) 1 }
 {
     (row >> (versions::rank_of(version) + VERSIONS)) % 2 == 1
 }
 
-pub fn kind_in(row: u64) -> u64
-    ensures { result ≡ kind_in row }
+pub fn kind_in(row: u64) -> Kind
+    ensures { result ≡ kind_by (kind_in row) }
 {
-    row / rows::KIND % rows::KINDS
+    match row / rows::KIND % rows::KINDS {
+        1 => Kind::Empty,
+        2 => Kind::Ds,
+        3 => Kind::Dss,
+        4 => Kind::Dsss,
+        5 => Kind::Sampled,
+        6 => Kind::Source,
+        _ => Kind::Constant,
+    }
 }
 
 pub fn class_in(row: u64) -> u64

@@ -1,12 +1,12 @@
 -- The code's cells are the paper's tables: below 97 and at PHASE by computed tests, elsewhere since no table names the opcode.
-use Prim.Native.Nat.{ℕ, zero, suc, ◌+◌, ◌-◌, ◌*◌, ◌/◌, ◌%◌, ◌^◌, ◌<◌}
+use Prim.Native.Nat.{ℕ, ◌+◌, ◌-◌, ◌*◌, ◌/◌, ◌%◌, ◌^◌}
 use mathlib.Core.Path.{◌≡◌, refl, ap}
-use mathlib.Core.List.{List, [], ◌∷◌}
-use mathlib.Core.Bool.{Bool, true, false, not, ◌&&◌, ◌||◌}
+use mathlib.Core.List.{List}
+use mathlib.Core.Bool.{Bool, true, false, ◌&&◌, ◌||◌}
+use Rattle.std.specs.Prelude.{Option, Some, None}
 use native.Mathlib.Omega.{arith}
 use lib.Dec.{eqb, ltb}
-use lib.ListN.{length}
-use borrow.Author.Tests.{eqb-true, ne_eqb, ltb-true}
+use borrow.Author.Tests.{eqb-true, ne_eqb}
 use Rattle.paper.specs.Notation.{pick}
 use Rattle.paper.specs.Versions.{has_sizes}
 use Rattle.paper.specs.OpcodeTable.{rows, PHASE}
@@ -22,7 +22,7 @@ use Rattle.versions.specs.Rows.{rank}
 use Rattle.versions.proofs.Sets.{same, same_true}
 use Rattle.shapes.proofs.Table.{limit, beyond}
 use Rattle.shapes.proofs.Computed.{Beyond, from_limit, computed}
-use Rattle.uniform.specs.Uniform.{Kind, no_kind, first_kinds, kinds_in, kind_number, kind_at, sincos, kind_of, uniform_of, row_in, row_by, row_of, free_count, first_row}
+use Rattle.uniform.specs.Uniform.{no_kind, first_kinds, kinds_in, kind_number, kind_at, sincos, kind_of, uniform_of, row_in, given, row_by, row_of, free_count, first_row}
 use Rattle.uniform.specs.Cells.{count_in, free_cells, first_cells}
 use Rattle.uniform.proofs.KindRules.{at_zero, at_kind}
 
@@ -63,24 +63,33 @@ pub no_first_cells : (opcode : ℕ) → NoneBelow first_cells opcode limit → f
 unfolding first_rows entry_of kind_of first_cells
 no_first_cells = no_opcode first_cells refl no_first
 
-pub rank_few : (v : Version) → rank v < 9
-rank_few v = ltb-true _ _ (each (λ v. ltb (rank v) 9) refl v)
-
 -- what the code finds for the version of a rank by the cells of an opcode
-abbrev pub found : ℕ → ℕ → ℕ
-found n cells = pick (eqb (cells / 2 ^ (n + 3) % 2) 0) 0 (cells % 8)
+abbrev pub found : ℕ → ℕ → Option ℕ
+found n cells = pick (eqb (cells / 2 ^ (n + 3) % 2) 0) None (Some (cells % 8))
+
+abbrev alike : Option ℕ → Option ℕ → Bool
+alike None None = true
+alike None (Some n) = false
+alike (Some m) None = false
+alike (Some m) (Some n) = eqb m n
+
+alike_same : (a b : Option ℕ) → alike a b ≡ true → a ≡ b
+alike_same None None h = refl
+alike_same None (Some n) h = never h
+alike_same (Some m) None h = never h
+alike_same (Some m) (Some n) h = ap Some (eqb-true m n h)
 
 abbrev counts : Version → ℕ → Bool
-counts v opcode = eqb (found (rank v) (free_cells opcode)) (free_count v opcode)
+counts v opcode = alike (found (rank v) (free_cells opcode)) (free_count v opcode)
 
-counted : (v : Version) (opcode : ℕ) → counts v opcode ≡ true
+found_right : (v : Version) (opcode : ℕ) → counts v opcode ≡ true
 unfolding rows first_rows entry_of typed_places kind_of uniform_of free_cells
-counted =
+found_right =
     computed counts refl refl
-    (λ v opcode b e. rw (no_free opcode b, no_count v opcode b) (each (λ v. eqb (found (rank v) 0) (pick (has_sizes v) 0 0)) refl v))
+    (λ v opcode b e. rw (no_free opcode b, no_count v opcode b) (each (λ v. alike (found (rank v) 0) (pick (has_sizes v) None None)) refl v))
 
 pub count_found : (v : Version) (opcode n cells : ℕ) → n ≡ rank v → cells ≡ free_cells opcode → found n cells ≡ free_count v opcode
-count_found v opcode n cells hn hc = rw (hn, hc) (eqb-true _ (free_count v opcode) (counted v opcode))
+count_found v opcode n cells hn hc = rw (hn, hc) (alike_same _ (free_count v opcode) (found_right v opcode))
 
 -- the digit of a version without sizes
 abbrev digit_at : ℕ → ℕ → ℕ
@@ -107,10 +116,10 @@ same_types_lem : (t : Types) (a b : List ℕ) → listed_types t ≡ true → ty
 same_types_lem free a b h = never h
 same_types_lem (only types) a b h = refl
 
-same_row : (v : Version) (n : ℕ) → row_by n ≡ row_in v (kind_at first_kinds n)
+same_row : (v : Version) (n : ℕ) → row_by n ≡ given (row_in v (kind_at first_kinds n))
 unfolding row_by
 same_row v =
-    at_kind (λ k. listed_types k.written && listed_types k.read) (λ k. row_in V1 k ≡ row_in v k) refl
+    at_kind (λ k. listed_types k.written && listed_types k.read) (λ k. given (row_in V1 k) ≡ given (row_in v k)) refl
     (λ k t.
     rw (
       same_types_lem k.written (free_destination_types V1) (free_destination_types v) (both_left (listed_types k.written) _ t),
@@ -123,20 +132,3 @@ pub row_found : (v : Version) (opcode n cells : ℕ) → has_sizes v ≡ false �
 unfolding row_of uniform_of
 row_found v opcode n cells hs hn hc =
     rw (hn, hc, eqb-true _ (kind_of v opcode) (rw hs at (numbered v opcode)), hs) (same_row v (kind_of v opcode))
-
--- behind the last of the rows there is none
-from_last : (ks : List Kind) (n : ℕ) → length ks < n → kind_at ks n ≡ no_kind
-from_last [] n h = refl
-from_last (k ∷ ks) zero h = refl
-from_last (k ∷ ks) (suc zero) h = absurd (omega arith)
-from_last (k ∷ ks) (suc (suc n)) h = from_last ks (suc n) (omega arith)
-
-abbrev row_count : ℕ → ℕ
-row_count n = (kind_at first_kinds n).count
-
-pub no_row_lem : (n : ℕ) → NoneBelow row_count n 17 → row_by n ≡ row_in V1 no_kind
-unfolding row_by
-no_row_lem n rest =
-    ap (row_in V1)
-    (at_kind (λ k. not (eqb k.count 0)) (λ k. k.count ≡ 0 → k ≡ no_kind) (λ e. refl) (λ k t e. never (rw e at t)) first_kinds refl n
-    (none_left row_count n 17 (λ h. ap (λ k. k.count) (from_last first_kinds n h)) rest))

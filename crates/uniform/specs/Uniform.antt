@@ -1,5 +1,5 @@
 -- Uniform rows: operands that are a destination and sources that are all of one kind, by the paper's tables.
-use Rattle.std.specs.Prelude.{ℕ, zero, suc, ◌-◌, List, [], ◌∷◌, eqb}
+use Rattle.std.specs.Prelude.{ℕ, zero, suc, ◌-◌, List, [], ◌∷◌, Option, Some, None, eqb}
 use Rattle.paper.specs.Notation.{pick}
 use Rattle.paper.specs.Versions.{has_sizes}
 use Rattle.paper.specs.OperandTokens.{free_destination_types, free_source_types, types_or}
@@ -125,16 +125,23 @@ row_in v k =
       read = set_of (types_or k.read (free_source_types v));
     }
 
+-- a row, and a number of operands, if there are any
+abbrev pub given : Row → Option Row
+given row = pick (eqb row.count 0) None (Some row)
+
+abbrev pub counted : ℕ → Option ℕ
+counted count = pick (eqb count 0) None (Some count)
+
 -- the rows of the versions without sizes, by number: their types are the same in each
-unfoldable pub row_by : ℕ → Row
-row_by number = row_in V1 (kind_at first_kinds number)
+unfoldable pub row_by : ℕ → Option Row
+row_by number = given (row_in V1 (kind_at first_kinds number))
 
 unfoldable pub row_of : Version → ℕ → Row
 row_of v opcode = row_in v (uniform_of v opcode)
 
 -- what the two tables tell: that of the versions with sizes how many operands there are, and that of the others the row
-abbrev pub free_count : Version → ℕ → ℕ
-free_count v opcode = pick (has_sizes v) (uniform_of v opcode).count 0
+abbrev pub free_count : Version → ℕ → Option ℕ
+free_count v opcode = pick (has_sizes v) (counted (uniform_of v opcode).count) None
 
-abbrev pub first_row : Version → ℕ → Row
-first_row v opcode = pick (has_sizes v) (row_in v no_kind) (row_of v opcode)
+abbrev pub first_row : Version → ℕ → Option Row
+first_row v opcode = pick (has_sizes v) None (given (row_of v opcode))

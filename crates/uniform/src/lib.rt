@@ -9,8 +9,7 @@ ghost use Rattle.uniform.specs.Cells.{free_cells, first_cells};
 
 use paper::Version;
 
-// How many operands there are, and the register types that the destination and the sources may have, as sets: each raises its own bit. A row has
-// operands: 0 says that there is none.
+// How many operands there are, at least one, and the register types that the destination and the sources may have, as sets: each raises its own bit.
 #[derive(Clone, Copy)]
 pub struct Row {
     pub count: u32,
@@ -62,16 +61,16 @@ fn free_cells(opcode: u32) -> u32
     }
 }
 
-// How many operands an opcode has in a version with sizes, if their places are free; else 0.
-pub fn free_count(version: Version, opcode: u32) -> u32
+// How many operands an opcode has in a version with sizes, if their places are free.
+pub fn free_count(version: Version, opcode: u32) -> Option<u32>
     ensures { result ≡ free_count version opcode }
 {
     let rank = versions::rank_of(version);
     let cells = free_cells(opcode);
     if (cells >> (rank + cells::VERSIONS)) % 2 == 0 {
-        return 0;
+        return None;
     }
-    cells % cells::COUNTS
+    Some(cells % cells::COUNTS)
 }
 
 // The cells of an opcode in the versions without sizes: a digit for each, the number of its row.
@@ -130,109 +129,102 @@ fn first_cells(opcode: u32) -> u32
 }
 
 // The rows by number.
-fn row_by(number: u32) -> Row
+#[tactic(auto, unfolding(crate::specs::Uniform::row_by))]
+fn row_by(number: u32) -> Option<Row>
     ensures { result ≡ row_by number }
 {
     match number {
-        cells::V_MOV => Row {
+        cells::V_MOV => Some(Row {
             count: 2,
             written: 0b111_1001,
             read: cells::VERTEX_READ,
-        },
-        cells::V_DS => Row {
+        }),
+        cells::V_DS => Some(Row {
             count: 2,
             written: 0b111_0001,
             read: cells::VERTEX_READ,
-        },
-        cells::V_DSS => Row {
+        }),
+        cells::V_DSS => Some(Row {
             count: 3,
             written: 0b111_0001,
             read: cells::VERTEX_READ,
-        },
-        cells::V_DSSS => Row {
+        }),
+        cells::V_DSSS => Some(Row {
             count: 4,
             written: 0b111_0001,
             read: cells::VERTEX_READ,
-        },
-        cells::E_DS => Row {
+        }),
+        cells::E_DS => Some(Row {
             count: 2,
             written: 0b1001,
             read: 0b1111,
-        },
-        cells::E_DSS => Row {
+        }),
+        cells::E_DSS => Some(Row {
             count: 3,
             written: 0b1001,
             read: 0b1111,
-        },
-        cells::E_DSSS => Row {
+        }),
+        cells::E_DSSS => Some(Row {
             count: 4,
             written: 0b1001,
             read: 0b1111,
-        },
-        cells::E_T => Row {
+        }),
+        cells::E_T => Some(Row {
             count: 1,
             written: 0b1000,
             read: 0,
-        },
-        cells::E_KILL => Row {
+        }),
+        cells::E_KILL => Some(Row {
             count: 1,
             written: 0b1001,
             read: 0,
-        },
-        cells::E_TT => Row {
+        }),
+        cells::E_TT => Some(Row {
             count: 2,
             written: 0b1000,
             read: 0b1000,
-        },
-        cells::L_D => Row {
+        }),
+        cells::L_D => Some(Row {
             count: 1,
             written: 1,
             read: 0,
-        },
-        cells::L_DS => Row {
+        }),
+        cells::L_DS => Some(Row {
             count: 2,
             written: 1,
             read: 0b111,
-        },
-        cells::L_DSS => Row {
+        }),
+        cells::L_DSS => Some(Row {
             count: 3,
             written: 1,
             read: 0b111,
-        },
-        cells::L_DSSS => Row {
+        }),
+        cells::L_DSSS => Some(Row {
             count: 4,
             written: 1,
             read: 0b111,
-        },
-        cells::L_TEXCOORD => Row {
+        }),
+        cells::L_TEXCOORD => Some(Row {
             count: 2,
             written: 1,
             read: 0b1000,
-        },
-        cells::L_TEX => Row {
+        }),
+        cells::L_TEX => Some(Row {
             count: 2,
             written: 1,
             read: 0b1001,
-        },
-        _ => Row {
-            count: 0,
-            written: 0,
-            read: 0,
-        },
+        }),
+        _ => None,
     }
 }
 
 // The row of an opcode in a version without sizes; none in another.
-pub fn first_row(version: Version, opcode: u32) -> Row
+pub fn first_row(version: Version, opcode: u32) -> Option<Row>
     ensures { result ≡ first_row version opcode }
 {
     let rank = versions::rank_of(version);
     if rank < cells::FIRST {
-        return Row {
-            count: 0,
-            written: 0,
-            read: 0,
-        };
+        return None;
     }
     row_by((first_cells(opcode) >> (cells::DIGIT * (rank - cells::FIRST))) % cells::BASE)
 }

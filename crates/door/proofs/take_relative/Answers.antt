@@ -1,20 +1,14 @@
-use mathlib.Core.Path.{sym, ◌∙◌}
+use mathlib.Core.Path.{ap, ◌∙◌}
 use native.Mathlib.Omega.{arith}
+use Rattle.std.specs.Prelude.{Result, is_ok}
+use Rattle.tokens.specs.declared.Wrong.{Wrong}
 use Rattle.door.proofs.Taking.{relative_took}
 use Rattle.door.proofs.take_relative.Goals as goal
 
-pub returns-then-is_ok : goal.returns-then-is_ok
-returns-then-is_ok c = (
-  omega arith,
-  λ offset.
-      let g = c.args in
-      rw (relative_took g.version offset g.at _ g.behind.now c.if-behind-at.false c.judge_relative.ensures, sym c.is_ok.ensures.value ∙ c.if-is_ok.true),
-)
-
-pub returns : goal.returns
-returns c = (
-  omega arith,
-  λ offset.
-      let g = c.args in
-      rw (relative_took g.version offset g.at _ g.behind.now c.if-behind-at.false c.judge_relative.ensures, sym c.is_ok.ensures.value ∙ c.if-is_ok.false),
-)
+pub returns-clause-took : goal.returns-clause-took
+returns-clause-took c offset =
+    let g = c.args in
+    let found = c.in_ok-get.ensures.lookup in
+    c.then_some.ensures
+    ∙ relative_took g.version offset g.at _ _ g.behind.now found.3.0 (found.4 (omega arith) 0)
+    (c.is_ok.ensures.value ∙ ap (λ (told : Result (Unit {0}) Wrong). is_ok told) c.judge_relative.ensures)

@@ -1,15 +1,13 @@
-use mathlib.Core.Path.{sym, ap, ◌∙◌}
-use Rattle.versions.specs.Sets.{holds}
-use Rattle.door.specs.Quick.{spot_of, free_read}
+use mathlib.Core.Path.{◌≡◌, sym, ◌∙◌}
+use native.Mathlib.Omega.{arith}
+use Rattle.std.proofs.lemmas.Grind.{common_steps}
+use Rattle.door.specs.Quick.{free_read}
+use Rattle.door.proofs.Quickly.{free_read_lem}
 use Rattle.door.proofs.quick.free_read.Goals as goal
 
-pub returns-then-read_laid : goal.returns-then-read_laid
+pub returns-then-read_laid-clause-stands : goal.returns-then-read_laid-clause-stands
 unfolding free_read
-returns-then-read_laid c =
+returns-then-read_laid-clause-stands c h =
     let g = c.args in
-    rw (sym c.read_laid.ensures ∙ c.if-read_laid.true)
-    (c.held.ensures ∙ ap (λ set. holds set (spot_of g.token)) c.read_types.ensures)
-
-pub returns : goal.returns
-unfolding free_read
-returns c = rw (sym c.read_laid.ensures ∙ c.if-read_laid.false)
+    let is : c.held.result ≡ free_read g.version g.token = grind (arith, common_steps) in
+    free_read_lem g.version g.token (omega arith) (sym is ∙ h)

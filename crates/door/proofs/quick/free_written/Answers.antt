@@ -1,15 +1,13 @@
-use mathlib.Core.Path.{sym, ap, ◌∙◌}
-use Rattle.versions.specs.Sets.{holds}
-use Rattle.door.specs.Quick.{spot_of, free_written}
+use mathlib.Core.Path.{◌≡◌, sym, ◌∙◌}
+use native.Mathlib.Omega.{arith}
+use Rattle.std.proofs.lemmas.Grind.{common_steps}
+use Rattle.door.specs.Quick.{free_written}
+use Rattle.door.proofs.Quickly.{free_written_lem}
 use Rattle.door.proofs.quick.free_written.Goals as goal
 
-pub returns-then-written_laid : goal.returns-then-written_laid
+pub returns-then-written_laid-clause-stands : goal.returns-then-written_laid-clause-stands
 unfolding free_written
-returns-then-written_laid c =
+returns-then-written_laid-clause-stands c h =
     let g = c.args in
-    rw (sym c.written_laid.ensures ∙ c.if-written_laid.true)
-    (c.held.ensures ∙ ap (λ set. holds set (spot_of g.token)) c.written_types.ensures)
-
-pub returns : goal.returns
-unfolding free_written
-returns c = rw (sym c.written_laid.ensures ∙ c.if-written_laid.false)
+    let is : c.held.result ≡ free_written g.version g.token = grind (arith, common_steps) in
+    free_written_lem g.version g.token (omega arith) (sym is ∙ h)
