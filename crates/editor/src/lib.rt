@@ -31,7 +31,7 @@ fn walk_to(version: Version, tokens: &[u32], from: State, target: usize) -> Opti
 }
 
 // The step at `state` of the splice, at i or behind. Only an instruction of the run that may take old tokens is gathered into a
-// window: of its tokens all but those past the sixteenth.
+// window: of its tokens all but those past the sixteenth. The parameters are the paper's; a struct of them would serve this function alone.
 fn step_spliced(
     version: Version,
     old: &[u32],

@@ -32,7 +32,8 @@ fn refused_instruction(version: u32, tokens: &[u32]) -> usize {
     at
 }
 
-// The operand of an instruction, its places being these, to which the token at a position belongs.
+// The operand of an instruction, its places being these, to which the token at a position belongs. A digit of `places` is a place, the first
+// one lowest; an iterator of digits would be written for this loop alone.
 fn operand_at(places: u64, tokens: &[u32], instruction: usize, position: usize) -> Option<Operand> {
     let mut left = places;
     let mut at = instruction.wrapping_add(1);

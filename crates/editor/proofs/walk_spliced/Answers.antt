@@ -115,15 +115,6 @@ returns-in_err-verdict_of c =
     turn_last g.version g.old.now g.first g.last g.run.now c.requires.0 l.step l.invariant.0 l.invariant.1 (sym c.goes_on.ensures ∙ c.loop-version-test.false) in
     rw (p.1, p.2) (ap (λ (x : Verdict). on_verdict x whole) (sym c.in_err-verdict_of.was ∙ verdict) ∙ read)
 
-pub overflow_add-end : goal.overflow_add-end
-overflow_add-end c = let b = c.requires.0 in omega (arith, b.order, b.inside)
-
-pub overflow_sub-length : goal.overflow_sub-length
-overflow_sub-length c = let b = c.requires.0 in omega (arith, b.order, b.inside)
-
-pub overflow_add-length : goal.overflow_add-length
-overflow_add-length c = let b = c.requires.0 in omega (arith, b.order, b.inside)
-
 pub loop-version-smaller : goal.loop-version-smaller
 loop-version-smaller c =
     let l = c.loop-version in

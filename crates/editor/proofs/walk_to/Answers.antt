@@ -4,7 +4,6 @@ use mathlib.Core.Bool.{true}
 use mathlib.Core.List.{List}
 use native.Mathlib.Omega.{arith}
 use lib.ListN.{length}
-use borrow.Author.Tests.{ltb-false}
 use Rattle.paper.specs.declared.Version.{Version}
 use Rattle.walk.specs.declared.Step.{Step}
 use Rattle.walk.specs.Steps.{goes_on, told_step, Passes}
@@ -56,9 +55,6 @@ returns c =
     rw c.then_some.ensures
     (found_is g.version g.tokens.now g.target l.step l.invariant.0 (sym c.goes_on.ensures ∙ c.loop-version-test.false) l.invariant.1
     c.goes_on-there.result (sym c.goes_on-there.ensures))
-
-pub loop-version-init : goal.loop-version-init
-loop-version-init c = ((c.requires.0, omega arith), λ off. absurd (omega (arith, ltb-false c.args.from.at (c.args.target + 1) off, c.requires)))
 
 pub loop-version-smaller : goal.loop-version-smaller
 loop-version-smaller c =
