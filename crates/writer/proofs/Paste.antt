@@ -5,10 +5,8 @@ use mathlib.Core.Bool.{Bool, true, false}
 use mathlib.Core.List.{List, [], ◌∷◌, ◌++◌, append_assoc, map-append}
 use Prim.Native.Nat.{ℕ, ◌+◌, ◌-◌, ◌^◌, ◌≤◌, ◌<◌}
 use native.Mathlib.Omega.{arith}
-use lib.Dec.{leb}
 use lib.ListN.{length, take, drop, set, length-set, length-append, length-map}
 use lib.Seq.{sets, sets-eq, length-sets}
-use borrow.Author.Tests.{leb-true, leb-false, le-leb, lt-leb}
 use borrow.Rule.Slice.PartMut.{mid_of, put_mid, mid_len}
 use Rattle.lists.proofs.Stores.{sets_append, sets_before, lent_stored}
 use Rattle.paper.proofs.Bools.{apart}
@@ -106,11 +104,3 @@ pasted_on xs a b at h =
       ← stored xs (a ++ b) at (omega (arith, length-append a b)),
     )
     (sym (sets_append a b xs at))
-
--- what fits behind a place
-pub leb_same : (count at length : ℕ) → at ≤ length → leb count (length - at) ≡ leb (at + count) length
-leb_same count at length h = by (leb count (length - at)) refl
-  where
-    by : (b : Bool) → leb count (length - at) ≡ b → leb count (length - at) ≡ leb (at + count) length
-    by true e = e ∙ sym (le-leb (at + count) length (omega (arith, leb-true count (length - at) e)))
-    by false e = e ∙ sym (lt-leb (at + count) length (omega (arith, leb-false count (length - at) e)))

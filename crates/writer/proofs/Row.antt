@@ -77,11 +77,7 @@ pub row_none : (left : ℕ) (operands : List Operand) (p : Operand) → left ≡
 unfolding row_tokens
 row_none left operands p e = rw (e, decoded_zero)
 
--- which operand of the array stands at a place, and how many are then held in token order
-pub slot_few : (predicate : Bool) (held slot : ℕ) → held ≤ predicate_slot → slot ≡ pick predicate predicate_slot held → slot ≤ predicate_slot
-slot_few true held slot h e = omega arith
-slot_few false held slot h e = omega arith
-
+-- how many operands are then held in token order
 pub held_few : (predicate : Bool) (held next left : ℕ) → held + suc left ≤ operand_count → next ≡ pick predicate held (held + 1) → next + left ≤ operand_count
 held_few true held next left h e = omega arith
 held_few false held next left h e = omega arith

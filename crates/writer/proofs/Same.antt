@@ -1,29 +1,14 @@
 -- Two records compared: the test holds exactly where they are equal.
 use mathlib.Core.Path.{◌≡◌, refl}
-use mathlib.Core.Bool.{true, ◌&&◌}
+use mathlib.Core.Bool.{true}
 use mathlib.Core.List.{List, [], ◌∷◌}
-use Prim.Native.Nat.{ℕ, ◌+◌, ◌≤◌, ◌<◌}
-use native.Mathlib.Numerals.{add-one}
+use Prim.Native.Nat.{ℕ}
 use lib.Dec.{eqb}
-use lib.ListN.{length, drop, get_or, drop_of_length-le}
-use lib.Seq.{drop-cons}
 use borrow.Author.Tests.{eqb-true, eq-eqb}
 use Rattle.paper.proofs.Bools.{both_left, both_right, apart}
 use Rattle.records.specs.declared.Operand.{Operand}
 use Rattle.records.specs.declared.Record.{Record}
-use Rattle.records.specs.Record.{no_operand}
 use Rattle.writer.specs.Same.{same_numbers, operand_numbers, same_operand, same_operands, record_numbers, same_fields, same_record}
-
--- one operand after the other
-module _ (i : ℕ) (a b : List Operand) where
-  pub same_step : i < length a → i < length b →
-      same_operands (drop i a) (drop i b) ≡ (same_operand (get_or a i no_operand) (get_or b i no_operand) && same_operands (drop (i + 1) a) (drop (i + 1) b))
-  unfolding same_operands
-  same_step h k = rw (add-one, drop-cons a i no_operand h, drop-cons b i no_operand k)
-
-  pub same_done : length a ≤ i → length b ≤ i → same_operands (drop i a) (drop i b) ≡ true
-  unfolding same_operands
-  same_done h k = rw (drop_of_length-le a h, drop_of_length-le b k)
 
 -- equal numbers
 numbers_equal : (m : ℕ) (rest : List ℕ) (n : ℕ) (others : List ℕ) → same_numbers m rest n others ≡ true → ◌≡◌ {A = List ℕ} (m ∷ rest) (n ∷ others)
