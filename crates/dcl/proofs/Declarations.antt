@@ -4,16 +4,20 @@ use mathlib.Core.Bool.{true, false, ◌&&◌}
 use mathlib.Core.List.{List, [], ◌∷◌}
 use Prim.Native.Nat.{ℕ, ◌<◌, ◌≤◌}
 use native.Mathlib.Omega.{arith}
+use lib.Dec.{eqb}
 use lib.ListN.{length, drop, get_or, length-drop}
+use Rattle.paper.specs.Notation.{pick}
 use Rattle.paper.specs.Numbers.{number_of, told_token}
 use Rattle.paper.specs.OperandTokens.{type_of, laid, refused_operands, left_over}
 use Rattle.paper.specs.Places.{declared}
-use Rattle.paper.specs.Dcl.{is_declared, face_laid, declared_fault, on_declared, usage_laid, usage_fault, usage_at, declaration}
+use Rattle.paper.specs.Dcl.{sampler_form, plain_form, usage_form, form_laid, is_declared, face_laid, declared_fault, on_declared, usage_laid, usage_fault, usage_at, declaration}
 use Rattle.paper.specs.declared.Version.{Version}
 use Rattle.paper.specs.declared.Reason.TheVariants.{Size as SIZE, Register as REGISTER}
 use Rattle.paper.specs.Judgements.{Token, good_token, bad_token, Operands, good_operands}
 use Rattle.paper.proofs.Bools.{never}
 use Rattle.paper.proofs.Faults.{is_good, declared_faultless, usage_faultless}
+use Rattle.versions.specs.Rows.{form_of}
+use Rattle.versions.proofs.Forms.{by_number}
 use Rattle.told.specs.Numbered.{fault_number, operands_number}
 
 -- with fewer than two tokens there is no destination
@@ -89,3 +93,8 @@ module _ (v : Version) where
           λ e. all ∙ left_none (drop 2 behind) (omega (arith, long)),
           λ e. all ∙ left_some (drop 2 behind) (λ z. e (omega (arith, long))),
         )
+
+-- the forms by their numbers
+pub form_laid_lem : (v : Version) (type token : ℕ) → form_laid v type token ≡
+    pick (eqb (form_of v type) 1) (sampler_form token) (pick (eqb (form_of v type) 2) (plain_form token) (usage_form token))
+form_laid_lem v type token = by_number v type (sampler_form token) (plain_form token) (usage_form token)

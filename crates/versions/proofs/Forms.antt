@@ -13,7 +13,7 @@ use Rattle.versions.specs.Rows.{form_of}
 use Rattle.versions.specs.declared.Form.{Form}
 use Rattle.versions.specs.declared.Form.TheVariants.{Sampler, Plain, Usage}
 
-by_number : {A : Type 0} (v : Version) (type : ℕ) (a b c : A) →
+pub by_number : {A : Type 0} (v : Version) (type : ℕ) (a b c : A) →
     form_by v type a b c ≡ pick (eqb (form_of v type) 1) a (pick (eqb (form_of v type) 2) b c)
 by_number {A} v type a b c = this (among type (sampler_types v)) (among type (plain_types v)) (among type (usage_types v))
   where
