@@ -21,7 +21,7 @@ module _ (room tokens : List ℕ) where
 pub returns-then-not-is_empty : goal.returns-then-not-is_empty
 returns-then-not-is_empty c =
     let g = c.args in
-    rw (c.copy_from_slice.ensures.after, c.copy_from_slice-then-not-is_empty.ensures.after, c.split_at_mut-front.ensures.back)
+    rw (c.copy_from_slice.ensures.after, c.copy.ensures, c.split_at_mut-front.ensures.back)
     (both g.room.now g.tokens.now g.behind.now c.requires)
 
 pub returns-else-not-is_empty : goal.returns-else-not-is_empty
