@@ -33,9 +33,9 @@ use Rattle.instruction.specs.Shown.{judged_in}
 use Rattle.instruction.proofs.Judging.{judged_shaped, class_in_lem}
 use Rattle.versions.specs.Sets.{holds}
 use Rattle.told.specs.Numbered.{yes_number, judged_number}
-use Rattle.exact.specs.Exact.{one_raw, four_raws, upper_in, size_in, kind_in, kind_by, exact_class, first_place, places_of, Known, Exactly}
+use Rattle.exact.specs.Exact.{one_raw, four_raws, upper_in, size_in, kind_in, kind_by, kind_number, exact_class, first_place, places_of, Known, Exactly}
 use Rattle.exact.specs.declared.Kind.{Kind}
-use Rattle.exact.specs.declared.Kind.TheVariants.{Empty, Ds, Dss, Dsss, Sampled, Source, Constant}
+use Rattle.exact.proofs.KindNumbers.{kind_back}
 use Rattle.uniform.specs.Uniform.{sources}
 use Rattle.door.proofs.Passing.{sources_length}
 use Rattle.door.specs.Quick.{spot_of, wide_of, modifier_set, most_results, read_laid, written_laid, free_read, free_written, Stands, TellsRow}
@@ -213,22 +213,6 @@ module _ (v : Version) (token : ℕ) (word : token < 2 ^ 32) where
       stands v (destination (only (type ∷ []))) token
       (destination_good token word v l (only (type ∷ [])) (top_one (eqb (type_of token + 32) place) h) (is_type place type 32 e h))
 
--- the numbers of the kinds
-abbrev pub kind_number : Kind → ℕ
-kind_number Empty = 1
-kind_number Ds = 2
-kind_number Dss = 3
-kind_number Dsss = 4
-kind_number Sampled = 5
-kind_number Source = 6
-kind_number Constant = 7
-
-abbrev kind_rule : ℕ → Bool
-kind_rule n = eqb n 0 || eqb (kind_number (kind_by n)) n
-
-kind_back : (n : ℕ) → n < 8 → (n ≡ 0 → ⊥) → kind_number (kind_by n) ≡ n
-kind_back n few some = eqb-true (kind_number (kind_by n)) n (rw (ne_eqb n 0 some) at (below_at kind_rule 8 n refl few))
-
 -- operands one after the other, each of one token
 module _ (v : Version) (place : Place) (offset token : ℕ) (rest : List ℕ) (places : List Place) where
   pub operands_step : Stands v place token → operands v (place ∷ places) offset (token ∷ rest) ≡ operands v places (offset + 1) rest
@@ -325,7 +309,7 @@ module _ (v : Version) where
 
     -- the kind that is told, by its number
     pub kind_is : (kind : Kind) → kind ≡ kind_by (kind_in row) → kind_in row ≡ kind_number kind
-    kind_is kind e = sym (kind_back (kind_in row) k.few k.kind) ∙ ap kind_number (sym e)
+    kind_is kind e = sym (kind_back (kind_in row)) ∙ ap kind_number (sym e)
 
     tells_free : (n told : ℕ) → n < 5 → decoded (places_of row) ≡ D ∷ sources n free → (kind_in row ≡ 1 → ⊥) → (kind_in row ≡ 6 → ⊥) →
         told ≡ yes_number (suc n) 1 → Stands v D (get_or behind 0 0) × Reads n behind → TellsRow v row behind told

@@ -144,6 +144,7 @@ fn tell_operands(version: Version, row: u64, behind: &[u32]) -> Option<u64>
             exact::size_in(row),
             PLAIN,
         )),
+        Kind::Other(_) => None,
     }
 }
 

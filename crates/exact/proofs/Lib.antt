@@ -1,2 +1,3 @@
 -- What the proofs of the function share, and the law of exact rows.
 pub mod Exactly
+pub mod KindNumbers

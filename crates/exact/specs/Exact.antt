@@ -9,7 +9,7 @@ use Rattle.shapes.specs.Shape.{shape_of, places_field, rule_in, class_in}
 use Rattle.opcodes.specs.Rows.{shape_from, row_of}
 use Rattle.versions.specs.Rows.{rank}
 use Rattle.exact.specs.declared.Kind.{Kind}
-use Rattle.exact.specs.declared.Kind.TheVariants.{Empty, Ds, Dss, Dsss, Sampled, Source, Constant}
+use Rattle.exact.specs.declared.Kind.TheVariants.{Empty, Ds, Dss, Dsss, Sampled, Source, Constant, Other}
 
 -- rows of places as one number: a free destination and so many free sources, and a sampler behind the first source
 abbrev pub ds : ℕ
@@ -88,7 +88,19 @@ kind_by number =
     (pick (eqb number 3) Dss
     (pick (eqb number 4) Dsss
     (pick (eqb number 5) Sampled
-    (pick (eqb number 6) Source Constant)))))
+    (pick (eqb number 6) Source
+    (pick (eqb number 7) Constant (Other number)))))))
+
+-- the numbers of the kinds
+abbrev pub kind_number : Kind → ℕ
+kind_number Empty = 1
+kind_number Ds = 2
+kind_number Dss = 3
+kind_number Dsss = 4
+kind_number Sampled = 5
+kind_number Source = 6
+kind_number Constant = 7
+kind_number (Other number) = number
 
 abbrev pub exact_class : ℕ → ℕ
 exact_class row = row / 2 ^ 24 % 16

@@ -11,7 +11,7 @@ use paper::Version;
 
 // The exact row of an opcode in the versions with sizes; NO_ROW, which no version lists, where its operands are of no kind. One arm for each opcode, and
 // no Option: only so does it become one table in memory (with Some and None two: 25.1 instructions a token for 24.1 on real mix, vs_2_0).
-fn row_of(opcode: u32) -> u64
+pub fn row_of(opcode: u32) -> u64
     ensures { result ≡ exact_row opcode }
 {
     match opcode {
@@ -83,7 +83,7 @@ pub fn row_in(version: Version, opcode: u32) -> Option<u64>
 const VERSIONS: u32 = 16;
 
 // The kinds of operands: none; a free destination and one, two or three free sources; a sampler behind a free destination and source; one source of one
-// type; a destination of one type and raw operands.
+// type; a destination of one type and raw operands; a number that no row has.
 #[derive(Clone, Copy, PartialEq, Eq)]
 pub enum Kind {
     Empty,
@@ -93,6 +93,7 @@ pub enum Kind {
     Sampled,
     Source,
     Constant,
+    Other(u64),
 }
 
 // The place of a sampler.
@@ -112,7 +113,7 @@ pub fn size_in(row: u64) -> u32
     (row / rows::SIZE % rows::SIZE) as u32
 }
 
-fn lists(row: u64, version: Version) -> bool
+pub fn lists(row: u64, version: Version) -> bool
     ensures { result ≡ eqb (listed_in row (rank version)) 1 }
 {
     (row >> (versions::rank_of(version) + VERSIONS)) % 2 == 1
@@ -128,7 +129,8 @@ pub fn kind_in(row: u64) -> Kind
         4 => Kind::Dsss,
         5 => Kind::Sampled,
         6 => Kind::Source,
-        _ => Kind::Constant,
+        7 => Kind::Constant,
+        other => Kind::Other(other),
     }
 }
 
