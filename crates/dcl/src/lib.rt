@@ -80,19 +80,25 @@ fn destination_laid(version: Version, destination: u32) -> bool
 pub fn judge_declaration(version: Version, behind: &[u32]) -> u64
     ensures { result ≡ operands_number (declaration version behind.now) }
 {
-    let &[usage, destination, ref rest @ ..] = behind else {
+    let &[usage, destination, ..] = behind else {
         return told::refused_first(Reason::Size);
     };
     if !destination_laid(version, destination) {
-        return told::refused(faults::declared_fault(version, destination).unwrap(), 2);
+        return told::refused_by(
+            faults::declaration_fault(version, destination, usage, false),
+            2,
+        );
     }
     if !is_declared(version, destination) {
-        return told::refused(Fault::of(Reason::Register), 2);
+        return told::refused_by(Some(Fault::of(Reason::Register)), 2);
     }
     if !usage_laid(version, destination, usage) {
-        return told::refused(faults::usage_fault(version, destination, usage).unwrap(), 1);
+        return told::refused_by(
+            faults::declaration_fault(version, destination, usage, true),
+            1,
+        );
     }
-    if rest.is_empty() {
+    if behind.len() == 2 {
         return told::FIT;
     }
     told::refused_first(Reason::Size)

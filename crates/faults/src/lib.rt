@@ -3,7 +3,7 @@
 #![tactic(auto)]
 
 ghost use Rattle.std.specs.Prelude.{◌≡◌, ◌||◌, ◌&&◌, true, false, [], eqb, leb, ◌≤◌};
-ghost use Rattle.paper.specs.Notation.{bit, bits};
+ghost use Rattle.paper.specs.Notation.{bit, bits, pick};
 ghost use Rattle.paper.specs.Judgements.{as_token};
 ghost use Rattle.paper.specs.Faults.{span, unless, offends, lowest, fault_by};
 ghost use Rattle.paper.specs.OperandTokens.{type_of, modifier_of, negated, written_zeros, fault_at};
@@ -253,4 +253,19 @@ pub fn usage_fault(version: Version, destination: u32, usage: u32) -> Option<Fau
         Form::Plain => fault_by(PLAIN, 0, usage, true, true),
         Form::Usage => fault_by(USAGE, usage_field(usage), usage, true, true),
     }
+}
+
+// What is wrong with a token of a DCL, U or the destination.
+pub fn declaration_fault(
+    version: Version,
+    destination: u32,
+    usage: u32,
+    in_usage: bool,
+) -> Option<Fault>
+    ensures { as_token result ≡ pick in_usage (usage_fault version (type_of destination) usage) (declared_fault version destination) }
+{
+    if in_usage {
+        return usage_fault(version, destination, usage);
+    }
+    declared_fault(version, destination)
 }

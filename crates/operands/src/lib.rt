@@ -20,8 +20,8 @@ fn refused_at(version: Version, place: u64, token: u32, wrong: Wrong, at: usize)
 {
     let position = at as u32 + 1;
     match wrong {
-        Wrong::Layout => told::refused(faults::fault_at(version, place, token).unwrap(), position),
-        Wrong::Register => told::refused(Fault::of(Reason::Register), position),
+        Wrong::Layout => told::refused_by(faults::fault_at(version, place, token), position),
+        Wrong::Register => told::refused_by(Some(Fault::of(Reason::Register)), position),
     }
 }
 

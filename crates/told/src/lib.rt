@@ -2,8 +2,8 @@
 #![tactic(auto)]
 
 ghost use Rattle.std.specs.Prelude.{◌≡◌, ◌%◌, ◌^◌};
-ghost use Rattle.paper.specs.Judgements.{as_judged};
-ghost use Rattle.paper.specs.Numbers.{number_of, fault_of, reason_by, refusal, told_instruction};
+ghost use Rattle.paper.specs.Judgements.{as_token, as_judged};
+ghost use Rattle.paper.specs.Numbers.{number_of, told_token, reason_by, refusal, told_instruction};
 ghost use Rattle.told.specs.Numbered.{yes_number, fault_number, refusal_number, is_refusal, taken_in, size_in, kind_in, is_plain, tells_phase, number_in, bit_in, position_in, class_by, judged_from};
 
 use paper::{Class, Closer, Fault, Instruction, Opener, Reason, Refusal, Single};
@@ -49,19 +49,31 @@ pub fn yes(size: u32, class: u64) -> u64
     std::num::wrapping_add_u64(WHOLE * size as u64, doubled)
 }
 
-// A refusal: the fault, the number of its reason and above it the bit, and its position from the first token on.
-pub fn refused(fault: Fault, position: u32) -> u64
-    ensures { result ≡ fault_number (fault_of fault.reason fault.bit) position }
+// A refusal: what is told of its fault, the number of its reason and above it the bit, and its position from the first token on.
+pub fn refused(fault: u32, position: u32) -> u64
+    ensures { result ≡ fault_number fault position }
 {
-    let told = paper::number_of(fault.reason) as u64 + NUMBERS * fault.bit as u64;
-    PLACED * position as u64 + (HALF * told + 1)
+    PLACED * position as u64 + (HALF * fault as u64 + 1)
+}
+
+// The same by the fault itself; where there is none, by number 0.
+pub fn refused_by(fault: Option<Fault>, position: u32) -> u64
+    ensures { result ≡ fault_number (told_token (as_token fault)) position }
+{
+    match fault {
+        Some(fault) => {
+            let told = paper::number_of(fault.reason) as u64 + NUMBERS * fault.bit as u64;
+            PLACED * position as u64 + (HALF * told + 1)
+        }
+        None => refused(0, position),
+    }
 }
 
 // A refusal of the whole instruction, which stands at its first token.
 pub fn refused_first(reason: Reason) -> u64
     ensures { result ≡ refusal_number (refusal reason 0) }
 {
-    refused(Fault::of(reason), 0)
+    refused(paper::number_of(reason), 0)
 }
 
 pub fn is_refused(told: u64) -> bool
