@@ -1,17 +1,21 @@
 -- What is told of an answer leaves one answer: each definition of "The numbers given back" is one-to-one.
-use Rattle.std.specs.Prelude.{Option, Some, None, Ok, Err}
+use Rattle.std.specs.Prelude.{Option, Some, None, Result, Ok, Err}
 use mathlib.Core.Path.{◌≡◌, refl, ap, sym, ◌∙◌}
 use Prim.Native.Nat.{ℕ, suc, ◌<◌}
 use native.Mathlib.Omega.{arith}
 use lib.Dec.{lit<}
 use Rattle.paper.specs.Versions.{named}
 use Rattle.paper.specs.Numbers.{number_of, reason_by, refusal_at_bit, fault_of, ToldVerdict, told, ToldNamed, told_named, ToldInstruction, told_instruction}
+use Rattle.paper.proofs.Bools.{apart}
 use Rattle.paper.proofs.VersionTokens.{named_back}
-use Rattle.paper.specs.Judgements.{Judged, good_instruction, bad_instruction, Verdict}
+use Rattle.paper.specs.Judgements.{Judged, good_instruction, bad_instruction, as_token, as_judged, Verdict}
 use Rattle.paper.specs.declared.Version.{Version}
 use Rattle.paper.specs.declared.Reason.{Reason}
 use Rattle.paper.specs.declared.Reason.TheVariants.{Length as LENGTH, Version as VERSION, Opcode as OPCODE, Bits as BITS, RunOut as RUN_OUT, Size as SIZE, Register as REGISTER, Block as BLOCK, Depth as DEPTH, Tail as TAIL, Place as PLACE, Room as ROOM, Record as RECORD, Reserved as RESERVED, Modifier as MODIFIER, Relative as RELATIVE}
 use Rattle.paper.specs.declared.Refusal.{Refusal}
+use Rattle.paper.specs.declared.Fault.{Fault}
+use Rattle.paper.specs.declared.Class.{Class}
+use Rattle.paper.specs.declared.Instruction.{Instruction}
 
 -- a reason by its number
 pub reason_back : (r : Reason) → reason_by (number_of r) ≡ r
@@ -88,6 +92,34 @@ same_instruction (good_instruction n c) (bad_instruction b) e = absurd (no_reaso
 same_instruction (bad_instruction a) (good_instruction m d) e = absurd (no_reason_zero a.reason (sym (ap (λ (t : ToldInstruction). t.number) e)))
 same_instruction (bad_instruction a) (bad_instruction b) e =
     ap bad_instruction (same_refusal a b (ap (λ (t : ToldInstruction). t.number) e) (ap (λ (t : ToldInstruction). t.position) e) (ap (λ (t : ToldInstruction). t.detail) e))
+
+-- what code gives back of a token and of an instruction, by the judgement that it stands for
+abbrev fault_with : Reason → ℕ → Fault
+fault_with reason bit = record { reason = reason; bit = bit }
+
+abbrev instruction_with : ℕ → Class → Instruction
+instruction_with size class = record { size = size; class = class }
+
+pub same_token : (a b : Option Fault) → as_token a ≡ as_token b → a ≡ b
+same_token (Some a) (Some b) e =
+    let reason : a.reason ≡ b.reason = cc in
+    let bit : a.bit ≡ b.bit = cc in
+    ap (λ (r : Reason). Some (fault_with r a.bit)) reason ∙ ap (λ n. Some (fault_with b.reason n)) bit
+same_token (Some a) None e = apart (cc)
+same_token None (Some b) e = apart (cc)
+same_token None None e = refl
+
+pub same_judged : (a b : Result Instruction Refusal) → as_judged a ≡ as_judged b → a ≡ b
+same_judged (Ok a) (Ok b) e =
+    let size : a.size ≡ b.size = cc in
+    let class : a.class ≡ b.class = cc in
+    ap (λ n. Ok (instruction_with n a.class)) size ∙ ap (λ (c : Class). Ok (instruction_with b.size c)) class
+same_judged (Ok a) (Err b) e = apart (cc)
+same_judged (Err a) (Ok b) e = apart (cc)
+same_judged (Err a) (Err b) e = cc
+
+pub same_told : (a b : Result Instruction Refusal) → told_instruction (as_judged a) ≡ told_instruction (as_judged b) → a ≡ b
+same_told a b e = same_judged a b (same_instruction (as_judged a) (as_judged b) e)
 
 pub same_verdict : (a b : Verdict) → told a ≡ told b → a ≡ b
 same_verdict (Ok n) (Ok m) e = ap Ok (ap (λ (t : ToldVerdict). t.instructions) e)

@@ -3,3 +3,4 @@ pub mod Table
 pub mod Computed
 pub mod Shapes
 pub mod DestinationFirst
+pub mod Rules

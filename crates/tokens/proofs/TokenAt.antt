@@ -177,7 +177,7 @@ module _ (n token : ℕ) where
   several true types others tested held = set_among types tested (type_of token) (type_small token)
   several false types others tested held = held
 
-  types_held : Held (types_by n)
+  pub types_held : Held (types_by n)
   unfolding types_by holds
   types_held =
       several (eqb n 56) _ _ refl (several (eqb n 57) _ _ refl (several (eqb n 58) _ _ refl (several (eqb n 59) _ _ refl
@@ -190,6 +190,25 @@ types_tabled n types token some = rw (tabled_by n types some).1 (types_held n to
 
 -- the places that are neither kept as they stand nor free
 module _ (v : Version) (token : ℕ) where
+  abbrev LaidDestination : ℕ → Place → Type 0
+  LaidDestination n p = is_raw p ≡ false → is_free p ≡ false → is_destination p ≡ true → laid v declared token ≡ laid v p token
+
+  pub typed_destination_at : (n : ℕ) → LaidDestination n (place_by n)
+  typed_destination_at =
+      by_place LaidDestination (λ r f d. never d) (λ r f d. never d) (λ r f d. refl) (λ r f d. never (sym f)) (λ r f d. never d)
+      (λ r f d. never d) (λ r f d. never d) (λ r f d. never d) (λ n u h r f d. refl) (λ n u h r f d. never d)
+
+  abbrev LaidSource : ℕ → Place → Type 0
+  LaidSource n p =
+      is_raw p ≡ false → is_free p ≡ false → is_destination p ≡ false → (n ≡ 93 → ⊥) → (n ≡ 94 → ⊥) → laid v condition token ≡ laid v p token
+
+  pub typed_source_at : (n : ℕ) → LaidSource n (place_by n)
+  typed_source_at =
+      by_place LaidSource (λ r f d p e. never (sym r)) (λ r f d p e. never (sym r)) (λ r f d p e. never (sym d)) (λ r f d p e. never (sym f))
+      (λ r f d p e. refl) (λ r f d p e. absurd (p refl)) (λ r f d p e. absurd (e refl)) (λ r f d p e. never (sym f)) (λ n u h r f d p e. never (sym d))
+      (λ n u h r f d p e. refl)
+
+  -- the same of both
   abbrev KindLaid : ℕ → Place → Type 0
   KindLaid n p =
       is_raw p ≡ false → is_free p ≡ false → (n ≡ 93 → ⊥) → (n ≡ 94 → ⊥) → pick (is_destination p) (laid v declared token) (laid v condition token) ≡ laid v p token

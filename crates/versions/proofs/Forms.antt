@@ -1,5 +1,5 @@
 -- The form of U that DCL takes with a register type, by the form that code gives back.
-use mathlib.Core.Path.{◌≡◌, refl, ◌∙◌}
+use mathlib.Core.Path.{◌≡◌, refl, sym, ap, ◌∙◌}
 use mathlib.Core.Bool.{Bool, true, false}
 use Prim.Native.Nat.{ℕ}
 use lib.Dec.{eqb}
@@ -39,3 +39,16 @@ form_by_lem {A} v type a b c form e = by_number v type a b c ∙ rw (← e) (thi
     this (Some Plain) = refl
     this (Some Usage) = refl
     this None = refl
+
+-- the number leaves one form
+abbrev numbered_form : ℕ → Option Form
+numbered_form n = pick (eqb n 1) (Some Sampler) (pick (eqb n 2) (Some Plain) (pick (eqb n 3) (Some Usage) None))
+
+form_back : (f : Option Form) → numbered_form (form_number f) ≡ f
+form_back None = refl
+form_back (Some Sampler) = refl
+form_back (Some Plain) = refl
+form_back (Some Usage) = refl
+
+pub same_form : (a b : Option Form) → form_number a ≡ form_number b → a ≡ b
+same_form a b e = sym (form_back a) ∙ ap numbered_form e ∙ form_back b
