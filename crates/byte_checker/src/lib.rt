@@ -1,7 +1,8 @@
 // The check of a byte range: document 01, "What the build does".
 #![tactic(auto)]
 
-ghost use Rattle.std.specs.Prelude.{◌≡◌, ◌+◌, ◌-◌, ◌/◌, ◌<◌, ◌≤◌, ◌++◌, min, length, take, drop};
+ghost use Rattle.std.specs.Prelude.{◌≡◌, ◌+◌, ◌-◌, ◌/◌, ◌%◌, ◌<◌, ◌≤◌, ◌++◌, eqb, min, length, take, drop};
+ghost use Rattle.std.specs.Int.{w32, from_le_bytes};
 ghost use Rattle.std.proofs.lemmas.List.Edits.{sets};
 ghost use Rattle.paper.specs.Numbers.{told};
 ghost use Rattle.paper.specs.Stream.{length_laid, walked};
@@ -14,6 +15,13 @@ use walk::{Pace, State, Step};
 // So many tokens are read at once.
 const WINDOW: usize = 192;
 
+// A token by its four bytes, the lowest first.
+fn token_of(bytes: [u8; 4]) -> u32
+    ensures { result ≡ from_le_bytes w32 bytes }
+{
+    u32::from_le_bytes(bytes)
+}
+
 // The tokens, each given by its four bytes, at the front of a buffer, all or as many as it has room for, and how many they are.
 fn read(tokens: &[[u8; 4]], room: &mut [u32]) -> usize
     ensures count { result ≡ min (length tokens.now) (length room.old) }
@@ -21,7 +29,7 @@ fn read(tokens: &[[u8; 4]], room: &mut [u32]) -> usize
 {
     let n = tokens.len().min(room.len());
     for (place, token) in room[..n].iter_mut().enumerate() {
-        *token = u32::from_le_bytes(tokens[place]);
+        *token = token_of(tokens[place]);
     }
     n
 }
@@ -81,6 +89,13 @@ fn walk_bytes(version: Version, tokens: &[[u8; 4]]) -> Verdict
     walk::verdict_of(step, tokens.len())
 }
 
+// Whether so many bytes are whole tokens.
+fn are_whole(bytes: usize) -> bool
+    ensures { result ≡ eqb (bytes % 4) 0 }
+{
+    bytes % 4 == 0
+}
+
 // Whether a stream may have so many tokens.
 fn is_laid(tokens: usize) -> bool
     ensures { result ≡ length_laid tokens }
@@ -92,11 +107,11 @@ fn is_laid(tokens: usize) -> bool
 pub fn check_bytes(bytes: &[u8]) -> Verdict
     ensures { told result ≡ told (bytes_verdict bytes.now) }
 {
-    let (tokens, rest) = bytes.as_chunks::<4>();
-    if !rest.is_empty() || !is_laid(tokens.len()) {
+    let tokens = bytes.as_chunks::<4>().0;
+    if !are_whole(bytes.len()) || !is_laid(tokens.len()) {
         return Err(Refusal::at(0, Reason::Length));
     }
-    let Some(version) = versions::version_of(u32::from_le_bytes(tokens[0])) else {
+    let Some(version) = versions::version_of(token_of(tokens[0])) else {
         return Err(Refusal::at(0, Reason::Version));
     };
     walk_bytes(version, tokens)

@@ -22,10 +22,11 @@ fn read_at(version: Version, tokens: &[u32], at: usize) -> Result<Reading, Refus
     }
     let told = stretches::judge_at(version, tokens, at, 0);
     if told::is_refused(told) {
+        let detail = told::bit_of(told);
         return Err(Refusal {
             reason: told::reason_of(told),
             position: at + told::position_of(told),
-            detail: told::bit_of(told),
+            detail,
         });
     }
     let class = told::class_of(told);

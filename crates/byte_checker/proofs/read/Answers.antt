@@ -15,8 +15,8 @@ loop-place-preserved c =
     let here : at < length g.tokens.now = omega (arith, c.min-n.ensures, long, c.loop-place-test.true) in
     let there : at < length (tokens_of g.tokens.now) = omega (arith, here, length-map g.tokens.now (from_le_bytes w32)) in
     rw (c.loop-place.invariant, add-one)
-    (one_more (tokens_of g.tokens.now) (take n g.room.now) at c.from_le_bytes.result there c.loop-place-test.true
-    (c.from_le_bytes.ensures ∙ sym (get_or-map (from_le_bytes w32) g.tokens.now at [] 0 here)))
+    (one_more (tokens_of g.tokens.now) (take n g.room.now) at c.token_of.result there c.loop-place-test.true
+    (c.token_of.ensures ∙ sym (get_or-map (from_le_bytes w32) g.tokens.now at [] 0 here)))
 
 pub returns-clause-held : goal.returns-clause-held
 returns-clause-held c =

@@ -16,7 +16,7 @@ pub returns-then-is_refused : goal.returns-then-is_refused
 returns-then-is_refused c =
     let why : c.reason_of.result ≡ reason_by (number_in c.judge_at-told.result) = same_reason _ _ c.reason_of.ensures in
     let refused = reads_refused c.args.version c.args.tokens.now c.args.at c.judge_at-told.result c.if-tokens-at.false c.judge_at-told.ensures (sym c.is_refused.ensures ∙ c.if-is_refused.true) in
-    rw (refused.reads, why, c.bit_of.ensures, c.position_of.ensures)
+    rw (refused.reads, why, c.bit_of-detail.ensures, c.position_of.ensures)
 
 pub slice_bounds-read_record-end : goal.slice_bounds-read_record-end
 slice_bounds-read_record-end c =
