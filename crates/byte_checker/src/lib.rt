@@ -1,7 +1,7 @@
 // The check of a byte range: document 01, "What the build does".
 #![tactic(auto)]
 
-ghost use Rattle.std.specs.Prelude.{◌≡◌, ◌+◌, ◌-◌, ◌/◌, ◌%◌, ◌<◌, ◌≤◌, ◌++◌, eqb, min, length, take, drop};
+ghost use Rattle.std.specs.Prelude.{◌≡◌, ◌+◌, ◌-◌, ◌/◌, ◌<◌, ◌≤◌, ◌++◌, min, length, take, drop};
 ghost use Rattle.std.specs.Int.{w32, from_le_bytes};
 ghost use Rattle.std.proofs.lemmas.List.Edits.{sets};
 ghost use Rattle.paper.specs.Numbers.{told};
@@ -89,13 +89,6 @@ fn walk_bytes(version: Version, tokens: &[[u8; 4]]) -> Verdict
     walk::verdict_of(step, tokens.len())
 }
 
-// Whether so many bytes are whole tokens.
-fn are_whole(bytes: usize) -> bool
-    ensures { result ≡ eqb (bytes % 4) 0 }
-{
-    bytes % 4 == 0
-}
-
 // Whether a stream may have so many tokens.
 fn is_laid(tokens: usize) -> bool
     ensures { result ≡ length_laid tokens }
@@ -108,7 +101,7 @@ pub fn check_bytes(bytes: &[u8]) -> Verdict
     ensures { told result ≡ told (bytes_verdict bytes.now) }
 {
     let tokens = bytes.as_chunks::<4>().0;
-    if !are_whole(bytes.len()) || !is_laid(tokens.len()) {
+    if bytes.len() % 4 != 0 || !is_laid(tokens.len()) {
         return Err(Refusal::at(0, Reason::Length));
     }
     let Some(version) = versions::version_of(token_of(tokens[0])) else {
