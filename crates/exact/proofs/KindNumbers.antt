@@ -1,10 +1,11 @@
 -- What is told of the kind of a row's operands leaves one number.
-use mathlib.Core.Path.{◌≡◌, refl, sym, ap, ◌∙◌}
+use mathlib.Core.Path.{◌≡◌, refl, sym, ◌∙◌}
 use mathlib.Core.Bool.{Bool, true, false}
 use Prim.Native.Nat.{ℕ}
 use lib.Dec.{eqb}
 use borrow.Author.Tests.{eqb-true}
 use Rattle.paper.specs.Notation.{pick}
+use Rattle.paper.proofs.OneToOne.{told_back}
 use Rattle.exact.specs.declared.Kind.{Kind}
 use Rattle.exact.specs.declared.Kind.TheVariants.{Empty, Ds, Dss, Dsss, Sampled, Source, Constant}
 use Rattle.exact.specs.Exact.{kind_by, kind_number}
@@ -20,4 +21,4 @@ kind_back n =
     (step n 5 _ Sampled _ refl refl (step n 6 _ Source _ refl refl (step n 7 _ Constant _ refl refl refl))))))
 
 pub same_kind : (n m : ℕ) → kind_by n ≡ kind_by m → n ≡ m
-same_kind n m e = sym (kind_back n) ∙ ap kind_number e ∙ kind_back m
+same_kind = told_back kind_by kind_number kind_back

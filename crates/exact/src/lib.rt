@@ -83,7 +83,7 @@ pub fn row_in(version: Version, opcode: u32) -> Option<u64>
 const VERSIONS: u32 = 16;
 
 // The kinds of operands: none; a free destination and one, two or three free sources; a sampler behind a free destination and source; one source of one
-// type; a destination of one type and raw operands; a number that no row has.
+// type; a destination of one type and raw operands; any other number, as NO_ROW has.
 #[derive(Clone, Copy, PartialEq, Eq)]
 pub enum Kind {
     Empty,

@@ -18,10 +18,7 @@ use Rattle.paper.specs.Dcl.{sampler_form, plain_form, usage_form, sampler_types,
 use Rattle.paper.specs.declared.Version.{Version}
 use Rattle.paper.specs.declared.Reason.{Reason}
 use Rattle.paper.specs.declared.Reason.TheVariants.{Register as REGISTER, Reserved as RESERVED, Modifier as MODIFIER, Relative as RELATIVE}
-use Rattle.std.specs.Prelude.{Option, Some, None, IsSome}
-use Rattle.paper.specs.declared.Fault.{Fault}
-use Rattle.paper.specs.Numbers.{fault_of, told_token}
-use Rattle.paper.specs.Judgements.{Token, good_token, bad_token, as_token}
+use Rattle.paper.specs.Judgements.{Token, good_token, bad_token}
 use Rattle.paper.proofs.Bools.{never, both_left, both_right, and_true, and_false, or_false}
 use Rattle.paper.proofs.VersionTokens.{each}
 
@@ -199,18 +196,6 @@ module _ (zeros fields : List ℕ) (token : ℕ) where
 abbrev pub is_good : Token → Bool
 is_good good_token = true
 is_good (bad_token reason bit) = false
-
--- of a token that is not good code gives back a fault, and that is what is told of it
-module _ (given : Option Fault) (token : Token) (e : as_token given ≡ token) where
-  pub fault_given : is_good token ≡ false → IsSome given
-  fault_given bad = by given (rw (← e) at bad)
-    where
-      by : (o : Option Fault) → is_good (as_token o) ≡ false → IsSome o
-      by None b = never (sym b)
-      by (Some f) b = refl
-
-  pub fault_told : (fault : Fault) → given ≡ Some fault → fault_of fault.reason fault.bit ≡ told_token token
-  fault_told fault is = rw (← e, is) refl
 
 -- a token has no fault exactly if bit 31 is one, no other bit offends, and bit 13 and the modifier are laid
 good_by : (one some r m : Bool) (k : ℕ) →

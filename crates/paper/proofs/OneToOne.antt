@@ -17,6 +17,10 @@ use Rattle.paper.specs.declared.Fault.{Fault}
 use Rattle.paper.specs.declared.Class.{Class}
 use Rattle.paper.specs.declared.Instruction.{Instruction}
 
+-- what can be told back is one-to-one
+pub told_back : {A B : Type 0} (tell : A → B) (back : B → A) → ((a : A) → back (tell a) ≡ a) → (a b : A) → tell a ≡ tell b → a ≡ b
+told_back tell back is a b e = sym (is a) ∙ ap back e ∙ is b
+
 -- a reason by its number
 pub reason_back : (r : Reason) → reason_by (number_of r) ≡ r
 reason_back LENGTH = refl
@@ -37,7 +41,7 @@ reason_back MODIFIER = refl
 reason_back RELATIVE = refl
 
 pub same_reason : (a b : Reason) → number_of a ≡ number_of b → a ≡ b
-same_reason a b e = sym (reason_back a) ∙ ap reason_by e ∙ reason_back b
+same_reason = told_back number_of reason_by reason_back
 
 -- no refusal has the number of a yes, and 32 numbers are enough
 bounds : (r : Reason) → (0 < number_of r) × (number_of r < 32)

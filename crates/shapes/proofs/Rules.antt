@@ -1,8 +1,9 @@
 -- The number leaves one rule of the controls.
-use mathlib.Core.Path.{◌≡◌, refl, sym, ap, ◌∙◌}
+use mathlib.Core.Path.{◌≡◌, refl}
 use Prim.Native.Nat.{ℕ}
 use lib.Dec.{eqb}
 use Rattle.paper.specs.Notation.{pick}
+use Rattle.paper.proofs.OneToOne.{told_back}
 use Rattle.shapes.specs.Rules.{rule_number}
 use Rattle.shapes.specs.declared.Rule.{Rule}
 use Rattle.shapes.specs.declared.Rule.TheVariants.{Zero, Comparison, Texture, Sizeless}
@@ -17,4 +18,4 @@ rule_back Texture = refl
 rule_back Sizeless = refl
 
 pub same_rule : (a b : Rule) → rule_number a ≡ rule_number b → a ≡ b
-same_rule a b e = sym (rule_back a) ∙ ap numbered_rule e ∙ rule_back b
+same_rule = told_back rule_number numbered_rule rule_back

@@ -16,7 +16,7 @@ use Rattle.places.specs.Places.{only_type, types_by, place_by}
 use Rattle.places.proofs.Places.{by_place}
 use Rattle.paper.specs.declared.Version.{Version}
 use Rattle.paper.proofs.Bools.{both_left, both_right, never, apart}
-use Rattle.paper.proofs.Faults.{is_good, faultless, token_good}
+use Rattle.paper.proofs.Faults.{is_good, token_good}
 use Rattle.std.specs.Prelude.{Some, None, Ok, Err, is_ok}
 use Rattle.paper.specs.Judgements.{bad_token}
 use Rattle.paper.specs.declared.Reason.TheVariants.{Register as REGISTER}
@@ -55,14 +55,6 @@ module _ (v : Version) (place : Place) (token : ℕ) where
       by true true f = apart (cc)
       by true false f = apart (cc)
       by false is_typed f = refl
-
-  pub brief_faulty : brief v place token ≡ Err Layout → is_good (fault_at v place token) ≡ false
-  brief_faulty e = by (laid v place token) (typed v place (type_of token)) (faultless v token place) e
-    where
-      by : (is_laid is_typed : Bool) → is_good (fault_at v place token) ≡ is_laid → briefly is_laid is_typed ≡ Err Layout → is_good (fault_at v place token) ≡ false
-      by true true l f = apart (cc)
-      by true false l f = apart (cc)
-      by false is_typed l f = l
 
   pub brief_type : brief v place token ≡ Err Register → token_at v place token ≡ bad_token REGISTER 0
   unfolding token_at
@@ -209,14 +201,13 @@ module _ (v : Version) (token : ℕ) where
       (λ n u h r f d p e. refl)
 
   -- the same of both
-  abbrev KindLaid : ℕ → Place → Type 0
-  KindLaid n p =
-      is_raw p ≡ false → is_free p ≡ false → (n ≡ 93 → ⊥) → (n ≡ 94 → ⊥) → pick (is_destination p) (laid v declared token) (laid v condition token) ≡ laid v p token
-
-  pub kind_laid_at : (n : ℕ) → KindLaid n (place_by n)
-  kind_laid_at =
-      by_place KindLaid (λ r f p e. never (sym r)) (λ r f p e. never (sym r)) (λ r f p e. refl) (λ r f p e. never (sym f)) (λ r f p e. refl)
-      (λ r f p e. absurd (p refl)) (λ r f p e. absurd (e refl)) (λ r f p e. never (sym f)) (λ n u h r f p e. refl) (λ n u h r f p e. refl)
+  pub kind_laid_at : (n : ℕ) → is_raw (place_by n) ≡ false → is_free (place_by n) ≡ false → (n ≡ 93 → ⊥) → (n ≡ 94 → ⊥) →
+      pick (is_destination (place_by n)) (laid v declared token) (laid v condition token) ≡ laid v (place_by n) token
+  kind_laid_at n r f p e = by (is_destination (place_by n)) refl
+    where
+      by : (b : Bool) → is_destination (place_by n) ≡ b → pick b (laid v declared token) (laid v condition token) ≡ laid v (place_by n) token
+      by true d = typed_destination_at n r f d
+      by false d = typed_source_at n r f d p e
 
   abbrev Typed : ℕ → Place → Type 0
   Typed n p =

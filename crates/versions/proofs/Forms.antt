@@ -1,5 +1,5 @@
 -- The form of U that DCL takes with a register type, by the form that code gives back.
-use mathlib.Core.Path.{◌≡◌, refl, sym, ap, ◌∙◌}
+use mathlib.Core.Path.{◌≡◌, refl, ◌∙◌}
 use mathlib.Core.Bool.{Bool, true, false}
 use Prim.Native.Nat.{ℕ}
 use lib.Dec.{eqb}
@@ -8,6 +8,7 @@ use Rattle.std.specs.Option.{unwrap_or}
 use Rattle.paper.specs.Notation.{pick, among}
 use Rattle.paper.specs.Dcl.{sampler_types, plain_types, usage_types, form_by}
 use Rattle.paper.specs.declared.Version.{Version}
+use Rattle.paper.proofs.OneToOne.{told_back}
 use Rattle.versions.specs.Forms.{form_number}
 use Rattle.versions.specs.Rows.{form_of}
 use Rattle.versions.specs.declared.Form.{Form}
@@ -51,4 +52,4 @@ form_back (Some Plain) = refl
 form_back (Some Usage) = refl
 
 pub same_form : (a b : Option Form) → form_number a ≡ form_number b → a ≡ b
-same_form a b e = sym (form_back a) ∙ ap numbered_form e ∙ form_back b
+same_form = told_back form_number numbered_form form_back

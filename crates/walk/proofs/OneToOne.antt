@@ -5,7 +5,7 @@ use Rattle.paper.specs.Notation.{pick}
 use Rattle.paper.specs.Numbers.{number_of, reason_by, refusal_at_bit}
 use Rattle.paper.specs.declared.Version.{Version}
 use Rattle.paper.specs.declared.Reason.{Reason}
-use Rattle.paper.proofs.OneToOne.{reason_back, no_reason_zero}
+use Rattle.paper.proofs.OneToOne.{told_back, reason_back, no_reason_zero}
 use Rattle.told.specs.Numbered.{judged_from}
 use Rattle.stretches.specs.declared.Stretch.{Stretch}
 use Rattle.stretches.proofs.Stretches.{one_stretch}
@@ -30,7 +30,7 @@ step_back (Err r) state =
 
 pub same_step : (a b : Step) → told_step a ≡ told_step b → a ≡ b
 unfolding told_step
-same_step a b e = sym (step_back a.answer a.state) ∙ ap step_from e ∙ step_back b.answer b.state
+same_step = told_back told_step step_from (λ s. step_back s.answer s.state)
 
 pub one_pass : (v : Version) (tokens : List ℕ) (state : State) (at stop beyond : ℕ) (a b : Step) →
     Passes v tokens state at stop beyond (told_step a) → Passes v tokens state at stop beyond (told_step b) → a ≡ b

@@ -1,7 +1,8 @@
 -- The number of the open blocks, and the step over it.
 use Rattle.std.specs.Prelude.{Some, Ok, Err}
-use Rattle.std.proofs.Common.{◌≡◌, ℕ, zero, suc, ◌+◌, ◌*◌, ◌/◌, ◌%◌, ◌^◌, ◌<◌, ◌≤◌, Bool, true, false, not, ◌&&◌, ◌||◌, eqb, ltb, List, [], ◌∷◌, length, sym, refl, ap, ◌∙◌, pow-suc, arith, ltb-false, ltb-true, le-ltb, lt-ltb, ne_eqb}
+use Rattle.std.proofs.Common.{◌≡◌, ℕ, zero, suc, ◌+◌, ◌*◌, ◌/◌, ◌%◌, ◌^◌, ◌<◌, ◌≤◌, Bool, true, false, not, ◌&&◌, ◌||◌, eqb, ltb, List, [], ◌∷◌, length, refl, ap, ◌∙◌, pow-suc, arith, ltb-false, ltb-true, le-ltb, lt-ltb, ne_eqb}
 use Rattle.paper.proofs.Bools.{apart, or_false}
+use Rattle.paper.proofs.OneToOne.{told_back}
 use Rattle.paper.specs.Notation.{pick}
 use Rattle.paper.specs.Blocks.{most_open, may_stand, is_phase, class_phase, is_zero}
 use Rattle.paper.specs.Walk.{Kind, opened, past_else, loops, in_loop, WalkState, nested, marked, is_end, closes, elses, close_at, step, go, bad, finish}
@@ -38,7 +39,7 @@ kind_back (opened Rep) = refl
 kind_back past_else = refl
 
 digit_same : (k l : Kind) → digit_of k ≡ digit_of l → k ≡ l
-digit_same k l e = sym (kind_back k) ∙ ap kind_from e ∙ kind_back l
+digit_same = told_back digit_of kind_from kind_back
 
 -- equal numbers are of equal open blocks
 pub number_same : (ks ls : List Kind) → kinds_number ks ≡ kinds_number ls → ks ≡ ls
